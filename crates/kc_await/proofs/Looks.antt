@@ -3,8 +3,8 @@ use Rattle.std.proofs.Common.{◌≡◌, ◌<◌, false, [], ◌∷◌, ◌++◌
 use Rattle.std.specs.Prelude.{Contains}
 use Rattle.std.proofs.lemmas.List.Elements.{All-nil, All-push}
 use Rattle.kc_await.proofs.Keeping.{waiting_keeps}
-use Rattle.kc_await.specs.Looks.{Adds, AddsBehindLooks, AddsLooks, IsLook}
-use Rattle.kc_await.specs.Waiting.{CommitsAtLast, Waiting, none, again, is_later}
+use Rattle.kc_await.specs.Looks.{AddsUnlessWorn, AddsBehindLooks, AddsLooks, IsWaitingLook}
+use Rattle.kc_await.specs.Waiting.{CommitsAtLast, HasWaited, none, again, is_later}
 use Rattle.kc_store.specs.kc_machine_traces.Histories.{Placed}
 use Rattle.kc_model.specs.declared.footprint.Footprint.{Footprint}
 use Rattle.kc_store.proofs.Among.{grows_in}
@@ -15,23 +15,23 @@ use Rattle.kc_store.specs.Verdicts.{verdict_of}
 use Rattle.kc_store.specs.declared.verdict.Answered.{Answered}
 use Rattle.kc_store.specs.declared.verdict.Answered.TheVariants as answered
 use Rattle.kc_store.specs.kc_table_moves.Views.{SeatView, knows}
-use Rattle.kc_store.specs.kc_table_laws.Tasks.{Keeps}
+use Rattle.kc_store.specs.kc_table_laws.Tasks.{KeepsKnown}
 use Rattle.kc_xt.specs.Meaning.{Meaning}
 
 -- each commit that is Later adds a look, and the hang behind it nothing
-pub waiting_adds : (m : Meaning) (v w : SeatView) → Waiting m v w → AddsLooks m v w
-waiting_adds m v w none = record { looks = []; each = All-nil (IsLook v.number m); own = sym (append-nil (own_entries v)) }
+pub waiting_adds : (m : Meaning) (v w : SeatView) → HasWaited m v w → AddsLooks m v w
+waiting_adds m v w none = record { looks = []; each = All-nil (IsWaitingLook v.number m); own = sym (append-nil (own_entries v)) }
 waiting_adds m v w (again u x y f before t (waits, (puts, g)) h) =
     let a = waiting_adds m v u before in
     let e : Placed = placed_entry g.taught.place g.mode u.number g.number f in
-    let look : IsLook v.number m e = record { own = (waiting_keeps m v u before).number; puts_nothing = puts; waits = waits } in
+    let look : IsWaitingLook v.number m e = record { own = (waiting_keeps m v u before).number; puts_nothing = puts; waits = waits } in
     record {
       looks = a.looks ++ e ∷ [];
-      each = All-push (IsLook v.number m) a.looks e a.each look;
+      each = All-push (IsWaitingLook v.number m) a.looks e a.each look;
       own = hangs_none f.reads x w h ∙ g.own ∙ ap (λ l. l ++ e ∷ []) a.own ∙ append_assoc (own_entries v) a.looks (e ∷ []);
     }
 
-adds_entry : (m : Meaning) (f : Footprint) (v last w : SeatView) → Keeps v last → AddsLooks m v last → Gains last f w → AddsBehindLooks m f v w
+adds_entry : (m : Meaning) (f : Footprint) (v last w : SeatView) → KeepsKnown v last → AddsLooks m v last → Gains last f w → AddsBehindLooks m f v w
 adds_entry m f v last w k a g = record {
   looks = a.looks;
   each = a.each;
@@ -45,16 +45,16 @@ adds_entry m f v last w k a g = record {
   own = g.own ∙ (λ i. a.own i ++ placed_entry g.taught.place g.mode (k.number i) g.number f ∷ []);
 }
 
-pub adds_at_last : (v w : SeatView) (m : Meaning) (a : Answered) (f : Footprint) → CommitsAtLast m a f v w → Adds m a f v w
+pub adds_at_last : (v w : SeatView) (m : Meaning) (a : Answered) (f : Footprint) → CommitsAtLast m a f v w → AddsUnlessWorn m a f v w
 adds_at_last v w m a f c = go a c.settles c.answers
   where
     before : AddsLooks m v c.last
     before = waiting_adds m v c.last c.waiting
 
-    keeps : Keeps v c.last
+    keeps : KeepsKnown v c.last
     keeps = waiting_keeps m v c.last c.waiting
 
-    go : (a : Answered) → Settles m (verdict_of a) c.last f w → is_later a ≡ false → Adds m a f v w
+    go : (a : Answered) → Settles m (verdict_of a) c.last f w → is_later a ≡ false → AddsUnlessWorn m a f v w
     go (answered.Done r) s e = adds_entry m f v c.last w keeps before s.1
     go answered.TooLarge s e = adds_entry m f v c.last w keeps before s.1.1
     go (answered.WornLocation loc) s e = adds_entry m f v c.last w keeps before s.1.1

@@ -2,7 +2,7 @@
 use Rattle.std.proofs.Common.{◌==◌}
 use Rattle.std.specs.Prelude.{All}
 use Rattle.kc_await.proofs.Rising.{numbers_rise}
-use Rattle.kc_await.specs.Looks.{numbers}
+use Rattle.kc_await.specs.Looks.{entry_numbers}
 use Rattle.kc_await.specs.Waiting.{CommitsAtLast}
 use Rattle.kc_store.specs.kc_machine_traces.Histories.{Placed}
 use Rattle.kc_model.specs.Rising.{IsRising}
@@ -17,7 +17,7 @@ use Rattle.kc_store.specs.Within.{LiesIn}
 use Rattle.kc_store.specs.kc_table_moves.Views.{SeatView, knows, opening_at_seat}
 use Rattle.kc_xt.specs.Meaning.{Meaning}
 
-pub rises_at_last : (v w : SeatView) (m : Meaning) (a : Answered) (f : Footprint) → CommitsAtLast m a f v w → IsRising (numbers (own_entries w))
+pub rises_at_last : (v w : SeatView) (m : Meaning) (a : Answered) (f : Footprint) → CommitsAtLast m a f v w → IsRising (entry_numbers (own_entries w))
 rises_at_last v w m a f c = numbers_rise (opening_at_seat w) w.number w.past (tries_meant m f c.tries.last w c.tries.tries).0
 
 pub lie_at_last : (v w : SeatView) (m : Meaning) (a : Answered) (f : Footprint) → CommitsAtLast m a f v w → All (LiesIn w.of.origin.locations) (own_entries w)

@@ -6,7 +6,7 @@ use Rattle.std.specs.Option.{is_some}
 use Rattle.std.proofs.lemmas.Bool.Decides.{nat_tests}
 use Rattle.std.proofs.lemmas.List.Elements.{All-contains}
 use borrow.Author.Tests.{eqb-true, eqb-false}
-use Rattle.kc_await.specs.Looks.{numbers}
+use Rattle.kc_await.specs.Looks.{entry_numbers}
 use Rattle.kc_store.specs.kc_machine.Machine.{Opening, World, run, seat_of}
 use Rattle.kc_store.specs.kc_machine.Schedules.{IsSchedule}
 use Rattle.kc_store.specs.kc_machine.Seats.{is_idle}
@@ -24,7 +24,7 @@ use Rattle.kc_store.specs.kc_machine_commits.declared.commit.Stage.{Stage}
 use Rattle.kc_store.specs.kc_machine_commits.declared.commit.Stage.TheVariants as stage
 use Rattle.kc_store.specs.kc_machine_invariants.Holds.{own_hold}
 use Rattle.kc_store.specs.kc_machine_invariants.Holds.Hold.{NoHold, Proper}
-use Rattle.kc_store.specs.kc_machine_invariants.Stands.{Stand, Waits, aids, hangs, owns, resting, stand, works}
+use Rattle.kc_store.specs.kc_machine_invariants.Stands.{Stand, Waits, stand_aids, stand_hangs, owns, resting, stand, works}
 use Rattle.kc_store.proofs.kc_machine_history.Begun.{entry_behind}
 use Rattle.kc_store.proofs.kc_machine_history.Decisions.{moves_by_decision}
 use Rattle.kc_store.proofs.kc_machine_history.Differ.{AreApart, SameCall, entries_apart}
@@ -45,7 +45,7 @@ use Rattle.kc_store.proofs.kc_machine_traces.Entries.{by_inserted, swap_caller}
 use Rattle.kc_store.proofs.kc_machine_traces.Joins.{every, made_parts}
 use Rattle.kc_store.proofs.kc_machine_traces.Numbers.{numbers_fit}
 use Rattle.kc_store.proofs.kc_machine_traces.Onward.{IfDone, SeatLeft, succeeded}
-use Rattle.kc_store.specs.kc_machine_traces.Entries.{by}
+use Rattle.kc_store.specs.kc_machine_traces.Entries.{placed_by}
 use Rattle.kc_store.specs.kc_machine_traces.Swaps.{SwapOf}
 use Rattle.kc_store.specs.kc_machine_steps.Lines.{one_more}
 use Rattle.kc_store.specs.kc_machine_steps.declared.swap.TheConstants.{MOST_SWAPS}
@@ -69,21 +69,21 @@ rising_push m (x ∷ xs) all r = rising_above x m xs (all x (Contains-first x xs
 abbrev number_of : Placed → ℕ
 number_of x = x.entry.number
 
-numbers_push : (h : History) (x : Placed) → numbers (h ++ x ∷ []) ≡ numbers h ++ number_of x ∷ []
+numbers_push : (h : History) (x : Placed) → entry_numbers (h ++ x ∷ []) ≡ entry_numbers h ++ number_of x ∷ []
 numbers_push [] x = refl
 numbers_push (y ∷ h) x = ap (λ l. number_of y ∷ l) (numbers_push h x)
 
 -- a property of entries is one of their numbers
-numbers_all : (P : ℕ → Type 0) (h : History) → ((x : Placed) → Contains h x → P (number_of x)) → (n : ℕ) → Contains (numbers h) n → P n
+numbers_all : (P : ℕ → Type 0) (h : History) → ((x : Placed) → Contains h x → P (number_of x)) → (n : ℕ) → Contains (entry_numbers h) n → P n
 numbers_all P [] all n c = absurd (omega (arith, c.1))
-numbers_all P (y ∷ h) all n c = go (first_or_later (number_of y) (numbers h) n c) (numbers_all P h (λ x i. all x (Contains-later y h x i)) n)
+numbers_all P (y ∷ h) all n c = go (first_or_later (number_of y) (entry_numbers h) n c) (numbers_all P h (λ x i. all x (Contains-later y h x i)) n)
   where
-    go : (number_of y ≡ n) ⊎ Contains (numbers h) n → (Contains (numbers h) n → P n) → P n
+    go : (number_of y ≡ n) ⊎ Contains (entry_numbers h) n → (Contains (entry_numbers h) n → P n) → P n
     go (inl e) ih = subst P e (all y (Contains-first y h))
     go (inr c) ih = ih c
 
-rises_last : (h : History) (x : Placed) → ((y : Placed) → Contains h y → number_of y < number_of x) → IsRising (numbers h) → IsRising (numbers (h ++ x ∷ []))
-rises_last h x all r = subst IsRising (sym (numbers_push h x)) (rising_push (number_of x) (numbers h) (numbers_all (λ n. n < number_of x) h all) r)
+rises_last : (h : History) (x : Placed) → ((y : Placed) → Contains h y → number_of y < number_of x) → IsRising (entry_numbers h) → IsRising (entry_numbers (h ++ x ∷ []))
+rises_last h x all r = subst IsRising (sym (numbers_push h x)) (rising_push (number_of x) (entry_numbers h) (numbers_all (λ n. n < number_of x) h all) r)
 
 inserted_in : (x : Placed) (h : History) → Contains (inserted x h) x
 inserted_in x [] = Contains-first x []
@@ -120,7 +120,7 @@ new_call x (z ∷ h) a y c s = go (nat_lt x.place z.place) a (λ a i. new_call x
 
 -- ---- the entry of a call that has not succeeded is not there
 
-aids_own : (t : Stand) (r : Reference) (c : Aided) (step : AidStep) → (aids t r c step).own ≡ t.own
+aids_own : (t : Stand) (r : Reference) (c : Aided) (step : AidStep) → (stand_aids t r c step).own ≡ t.own
 aids_own t r c (aid.Pass p) = refl
 aids_own t r c step = refl
 
@@ -129,7 +129,7 @@ owned t i c h (own.Pass p) = refl
 owned t i c h (own.Aid k r step) = ap own_hold (aids_own (record t { own = Waits h i k }) r c step)
 owned t i c h step = refl
 
-hangs_own : (t : Stand) (reads : _) (step : HangStep) → (hangs t reads step).own ≡ t.own
+hangs_own : (t : Stand) (reads : _) (step : HangStep) → (stand_hangs t reads step).own ≡ t.own
 hangs_own t reads (hang.Look k step) = refl
 hangs_own t reads step = refl
 
@@ -192,15 +192,15 @@ module _ (o : Opening) (k : ℕ) (es : List Event) (e : Event) (w : IsSchedule o
   owns_it = subst (λ j. own_hold (stand ((run o es).seats j)).own ≡ Proper d.handle.descriptor d.handle.generation) mine d.owns
 
   -- all of the caller's entries were there as its task began
-  before : by k h ≡ by k begun
+  before : placed_by k h ≡ placed_by k begun
   before =
       let busy = (answers_when_done o es k).busy (busy_owner ((run o es).seats k) d.handle.descriptor d.handle.generation owns_it) in
       let (t, asked) = is_some_of ((trace o es).shadows k).task busy.1 in
-      undone (run o es).world k t ((run o es).seats k) (by k begun) (by k h) d.handle.descriptor d.handle.generation owns_it (ap (λ (s : Status). is_success s.phase) d.was) ((kept o k within es w).left t asked)
+      undone (run o es).world k t ((run o es).seats k) (placed_by k begun) (placed_by k h) d.handle.descriptor d.handle.generation owns_it (ap (λ (s : Status). is_success s.phase) d.was) ((kept o k within es w).left t asked)
 
   lower : (y : Placed) → Contains h y → y.entry.caller ≡ k → y.place < x.place
   lower y c of =
-      let there : Contains (by k begun) y = subst (λ l. Contains l y) before (filtered_in (λ (z : Placed). z.entry.caller == k) h y (is_so y of) c) in
+      let there : Contains (placed_by k begun) y = subst (λ l. Contains l y) before (filtered_in (λ (z : Placed). z.entry.caller == k) h y (is_so y of) c) in
       let low : y.place < began o es k = begun_below o es k y (in_filtered (λ (z : Placed). z.entry.caller == k) begun y there) in
       let high : began o es k ≤ x.place = subst (λ j. began o es j ≤ x.place) mine (entry_behind o es e x d) in
       omega (arith, low, high)
@@ -208,7 +208,7 @@ module _ (o : Opening) (k : ℕ) (es : List Event) (e : Event) (w : IsSchedule o
       is_so : (y : Placed) → y.entry.caller ≡ k → (y.entry.caller == k) ≡ true
       is_so y q = grind (arith, nat_tests)
 
-  at_the_end : by k (inserted x h) ≡ by k h ++ x ∷ []
+  at_the_end : placed_by k (inserted x h) ≡ placed_by k h ++ x ∷ []
   at_the_end = filter_last (λ (y : Placed). y.entry.caller == k) x h (rises o es) (grind (arith, nat_tests)) none_behind
     where
       none_behind : (y : Placed) → Contains h y → x.place < y.place → (y.entry.caller == k) ≡ false
@@ -218,7 +218,7 @@ module _ (o : Opening) (k : ℕ) (es : List Event) (e : Event) (w : IsSchedule o
           go false q = refl
           go true q = let l = lower y c (eqb-true y.entry.caller k q) in absurd (omega (arith, l, above))
 
-  newer : AreApart (inserted x h) → (y : Placed) → Contains (by k h) y → y.entry.number < x.entry.number
+  newer : AreApart (inserted x h) → (y : Placed) → Contains (placed_by k h) y → y.entry.number < x.entry.number
   newer apart y i =
       let c = in_filtered (λ (z : Placed). z.entry.caller == k) h y i in
       let of : y.entry.caller ≡ k = eqb-true y.entry.caller k (of_filtered (λ (z : Placed). z.entry.caller == k) h y i) in
@@ -232,7 +232,7 @@ module _ (o : Opening) (k : ℕ) (es : List Event) (e : Event) (x : Placed) (d :
   abbrev list : History
   list = (trace o es).history
 
-  at_the_back : by k (inserted x list) ≡ by k list ++ x ∷ []
+  at_the_back : placed_by k (inserted x list) ≡ placed_by k list ++ x ∷ []
   at_the_back = filter_last (λ (y : Placed). y.entry.caller == k) x list (rises o es) (grind (arith, nat_tests)) none_behind
     where
       none_behind : (y : Placed) → Contains list y → x.place < y.place → (y.entry.caller == k) ≡ false
@@ -241,7 +241,7 @@ module _ (o : Opening) (k : ℕ) (es : List Event) (e : Event) (x : Placed) (d :
           let at : x.place ≡ length es = ap (λ (z : Placed). z.place) d.is in
           absurd (omega (arith, low, at, above))
 
-  above : (y : Placed) → Contains (by k list) y → y.entry.number < x.entry.number
+  above : (y : Placed) → Contains (placed_by k list) y → y.entry.number < x.entry.number
   above y i =
       let c = in_filtered (λ (z : Placed). z.entry.caller == k) list y i in
       let of : y.entry.caller ≡ k = eqb-true y.entry.caller k (of_filtered (λ (z : Placed). z.entry.caller == k) list y i) in
@@ -257,7 +257,7 @@ module _ (o : Opening) (k : ℕ) (es : List Event) (e : Event) (x : Placed) (d :
 -- ---- every schedule
 
 abbrev pub NumbersRise : Opening → ℕ → List Event → Type 0
-NumbersRise o k es = IsRising (numbers (by k (trace o es).history))
+NumbersRise o k es = IsRising (entry_numbers (placed_by k (trace o es).history))
 
 pub numbers_rise : (o : Opening) (k : ℕ) (es : List Event) → IsSchedule o es → NumbersRise o k es
 numbers_rise o k = every (λ es. IsSchedule o es → NumbersRise o k es) step (λ w. tt)
@@ -270,22 +270,22 @@ numbers_rise o k = every (λ es. IsSchedule o es → NumbersRise o k es) step (�
 
         entered : (x : Placed) → Decision o es e x → (trace o (es ++ e ∷ [])).history ≡ inserted x (trace o es).history → (b : Bool) → (x.entry.caller == k) ≡ b → NumbersRise o k (es ++ e ∷ [])
         entered x d is false q =
-            subst (λ h. IsRising (numbers (by k h))) (sym is) (subst (λ h. IsRising (numbers h)) (sym (by_inserted k x (trace o es).history (eqb-false x.entry.caller k q))) (f before))
+            subst (λ h. IsRising (entry_numbers (placed_by k h))) (sym is) (subst (λ h. IsRising (entry_numbers h)) (sym (by_inserted k x (trace o es).history (eqb-false x.entry.caller k q))) (f before))
         entered x d is true q =
             let mine = eqb-true x.entry.caller k q in
             let apart = subst AreApart is (entries_apart o (es ++ e ∷ []) w) in
-            subst (λ h. IsRising (numbers (by k h))) (sym is) (subst (λ h. IsRising (numbers h)) (sym (at_the_end o k es e before x d mine))
-            (rises_last (by k (trace o es).history) x (newer o k es e before x d mine apart) (f before)))
+            subst (λ h. IsRising (entry_numbers (placed_by k h))) (sym is) (subst (λ h. IsRising (entry_numbers h)) (sym (at_the_end o k es e before x d mine))
+            (rises_last (placed_by k (trace o es).history) x (newer o k es e before x d mine apart) (f before)))
 
         swapped : (x : Placed) → SwapOf (run o es) e (length es) x → (trace o (es ++ e ∷ [])).history ≡ inserted x (trace o es).history → (b : Bool) → (x.entry.caller == k) ≡ b → NumbersRise o k (es ++ e ∷ [])
         swapped x d is false q =
-            subst (λ h. IsRising (numbers (by k h))) (sym is) (subst (λ h. IsRising (numbers h)) (sym (by_inserted k x (trace o es).history (eqb-false x.entry.caller k q))) (f before))
+            subst (λ h. IsRising (entry_numbers (placed_by k h))) (sym is) (subst (λ h. IsRising (entry_numbers h)) (sym (by_inserted k x (trace o es).history (eqb-false x.entry.caller k q))) (f before))
         swapped x d is true q =
             let mine = eqb-true x.entry.caller k q in
-            subst (λ h. IsRising (numbers (by k h))) (sym is) (subst (λ h. IsRising (numbers h)) (sym (at_the_back o k es e x d mine))
-            (rises_last (by k (trace o es).history) x (above o k es e x d mine) (f before)))
+            subst (λ h. IsRising (entry_numbers (placed_by k h))) (sym is) (subst (λ h. IsRising (entry_numbers h)) (sym (at_the_back o k es e x d mine))
+            (rises_last (placed_by k (trace o es).history) x (above o k es e x d mine) (f before)))
 
         go : MovesByDecision o es e → NumbersRise o k (es ++ e ∷ [])
-        go (inl same) = subst (λ h. IsRising (numbers (by k h))) (sym same) (f before)
+        go (inl same) = subst (λ h. IsRising (entry_numbers (placed_by k h))) (sym same) (f before)
         go (inr (inl (x, d, is))) = entered x d is (x.entry.caller == k) refl
         go (inr (inr (x, d, is))) = swapped x d is (x.entry.caller == k) refl

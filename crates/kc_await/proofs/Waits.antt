@@ -4,8 +4,8 @@ use Rattle.std.specs.Prelude.{map}
 use Rattle.std.proofs.lemmas.List.Elements.{All-nil, All-push}
 use Rattle.kc_await.proofs.Numbered.{rises_at_last}
 use Rattle.kc_await.specs.Adds.{AddsLooksAlone, AddsLooksAndOne, IsLookOf, IsToldAtLast, WaitsSo}
-use Rattle.kc_await.specs.Looks.{numbers}
-use Rattle.kc_await.specs.Waiting.{CommitsAtLast, Waiting, none, again, is_later}
+use Rattle.kc_await.specs.Looks.{entry_numbers}
+use Rattle.kc_await.specs.Waiting.{CommitsAtLast, HasWaited, none, again, is_later}
 use Rattle.kc_store.specs.kc_hang.Hangs.{Hangs}
 use Rattle.kc_store.specs.kc_machine_traces.Histories.{History, entries}
 use Rattle.kc_model.specs.Footprint.{IsBelow}
@@ -29,7 +29,7 @@ use Rattle.kc_xt.specs.Meaning.{Meaning}
 -- ---- before the last try
 
 pub record StillWaits (m : Meaning) (c d : CallerView) : Type 0 where
-  pub waiting : Waiting m c.seat d.seat
+  pub waiting : HasWaited m c.seat d.seat
   pub remembers : Remembers c d
   pub adds : AddsLooksAlone m c d
   pub worn : d.worn ≡ c.worn
@@ -78,7 +78,7 @@ module _ (m : Meaning) (c d e g : CallerView) (f : Footprint) (a : Answered) (st
 pub commits_at_last : (m : Meaning) (c d e : CallerView) (f : Footprint) (a : Answered) → StillWaits m c d → AllTries m f d.seat e.seat → Settles m (verdict_of a) d.seat f e.seat → is_later a ≡ false → CommitsAtLast m a f c.seat e.seat
 commits_at_last m c d e f a still t s n = record { last = d.seat; waiting = still.waiting; tries = t; settles = s; answers = n }
 
-numbers_of : (h : History) → map (λ (e : Entry). e.number) (entries h) ≡ numbers h
+numbers_of : (h : History) → map (λ (e : Entry). e.number) (entries h) ≡ entry_numbers h
 numbers_of [] = refl
 numbers_of (x ∷ h) = ap (λ (l : List ℕ). x.entry.number ∷ l) (numbers_of h)
 

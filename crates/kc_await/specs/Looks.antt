@@ -11,11 +11,11 @@ use Rattle.kc_store.specs.kc_table_views.Tasks.{SuccessTaught}
 use Rattle.kc_xt.specs.Commit.{Waits}
 use Rattle.kc_xt.specs.Meaning.{Meaning}
 
-abbrev pub numbers : List Placed → List ℕ
-numbers h = map (λ (x : Placed). x.entry.number) h
+abbrev pub entry_numbers : List Placed → List ℕ
+entry_numbers h = map (λ (x : Placed). x.entry.number) h
 
 -- an entry of the caller that puts nothing, and wherever its reads stand the meaning is retry
-pub record IsLook (caller : ℕ) (m : Meaning) (x : Placed) : Type 0 where
+pub record IsWaitingLook (caller : ℕ) (m : Meaning) (x : Placed) : Type 0 where
   pub own : x.entry.caller ≡ caller
   pub puts_nothing : x.entry.footprint.puts.items ≡ []
   pub waits : Waits m x.entry.footprint
@@ -23,19 +23,19 @@ pub record IsLook (caller : ℕ) (m : Meaning) (x : Placed) : Type 0 where
 -- since v the caller has some looks more, and nothing else
 pub record AddsLooks (m : Meaning) (v w : SeatView) : Type 0 where
   pub looks : List Placed
-  pub each : All (IsLook v.number m) looks
+  pub each : All (IsWaitingLook v.number m) looks
   pub own : own_entries w ≡ own_entries v ++ looks
 
 -- some looks, and then the entry of this footprint, which stands behind all that the caller knew
 pub record AddsBehindLooks (m : Meaning) (f : Footprint) (v w : SeatView) : Type 0 where
   pub looks : List Placed
-  pub each : All (IsLook v.number m) looks
+  pub each : All (IsWaitingLook v.number m) looks
   pub number : ℕ
   pub mode : Mode
   pub taught : SuccessTaught v.number number f mode (knows v) (knows w)
   pub own : own_entries w ≡ own_entries v ++ looks ++ placed_entry taught.place mode v.number number f ∷ []
 
 -- the entry is missing exactly where the pool is worn
-abbrev pub Adds : Meaning → Answered → Footprint → SeatView → SeatView → Type 0
-Adds m answered.WornPool f v w = AddsLooks m v w
-Adds m a f v w = AddsBehindLooks m f v w
+abbrev pub AddsUnlessWorn : Meaning → Answered → Footprint → SeatView → SeatView → Type 0
+AddsUnlessWorn m answered.WornPool f v w = AddsLooks m v w
+AddsUnlessWorn m a f v w = AddsBehindLooks m f v w

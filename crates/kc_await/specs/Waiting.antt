@@ -19,14 +19,14 @@ is_later answered.Later = true
 is_later _ = false
 
 -- commits one after another, each answered Later, and behind each a hang of what it read
-pub data Waiting (m : Meaning) (v : SeatView) : SeatView → Type 0 where
-  none : Waiting m v v
-  again : (u w x : SeatView) (f : Footprint) → Waiting m v u → AllTries m f u w → Settles m verdict.Later u f w → Hangs f.reads w x → Waiting m v x
+pub data HasWaited (m : Meaning) (v : SeatView) : SeatView → Type 0 where
+  none : HasWaited m v v
+  again : (u w x : SeatView) (f : Footprint) → HasWaited m v u → AllTries m f u w → Settles m verdict.Later u f w → Hangs f.reads w x → HasWaited m v x
 
 -- and then the last one, which was answered this
 pub record CommitsAtLast (m : Meaning) (a : Answered) (f : Footprint) (v w : SeatView) : Type 0 where
   pub last : SeatView
-  pub waiting : Waiting m v last
+  pub waiting : HasWaited m v last
   pub tries : AllTries m f last w
   pub settles : Settles m (verdict_of a) last f w
   pub answers : is_later a ≡ false

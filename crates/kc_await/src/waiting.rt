@@ -10,7 +10,7 @@ ghost use Rattle.kc_store.specs.Verdicts.{has_entry, verdict_of};
 ghost use Rattle.kc_store.specs.declared.values.Outcome.TheVariants as outcome;
 ghost use Rattle.kc_store.specs.declared.values.Wear.TheVariants as wear;
 ghost use Rattle.kc_store.specs.declared.verdict.Answered.TheVariants as answered;
-ghost use Rattle.kc_store.specs.kc_table_laws.Tasks.{Keeps};
+ghost use Rattle.kc_store.specs.kc_table_laws.Tasks.{KeepsKnown};
 ghost use Rattle.kc_xt.specs.Meaning.{limited};
 
 use kc_model::Footprint;
@@ -31,7 +31,7 @@ pub fn commit_waiting<R: Wait, T: Transact>(
     ensures so { WaitsSo (limited (T.most transaction.now) (T.meaning transaction.now)) (T.end transaction.now) result caller.old caller.new }
     ensures commits { CommitsByValue (limited (T.most transaction.now) (T.meaning transaction.now)) (T.end transaction.now) result caller.old.seat caller.new.seat }
     ensures remembers { Remembers caller.old caller.new }
-    ensures keeps { Keeps caller.old.seat caller.new.seat }
+    ensures keeps { KeepsKnown caller.old.seat caller.new.seat }
     ensures worn { caller.old.worn ≡ true → result ≡ outcome.Worn wear.Pool }
     ensures notes { NotesWear caller.old (verdict_of (answered_in result)) caller.new }
 {
@@ -67,7 +67,7 @@ pub fn commit_waiting_into<R: Wait, T: Transact>(
     ensures told { IsToldAtLast (limited (T.most transaction.now) (T.meaning transaction.now)) result caller.old footprint.new caller.new }
     ensures commits { CommitsAtLast (limited (T.most transaction.now) (T.meaning transaction.now)) result footprint.new caller.old.seat caller.new.seat }
     ensures remembers { Remembers caller.old caller.new }
-    ensures keeps { Keeps caller.old.seat caller.new.seat }
+    ensures keeps { KeepsKnown caller.old.seat caller.new.seat }
     ensures within { has_entry (verdict_of result) ≡ true → IsBelow (T.end transaction.now) footprint.new }
     ensures worn { caller.old.worn ≡ true → result ≡ answered.WornPool }
     ensures notes { NotesWear caller.old (verdict_of result) caller.new }

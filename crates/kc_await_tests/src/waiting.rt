@@ -2,7 +2,7 @@
 
 ghost use Rattle.std.specs.Prelude.{◌≡◌, ◌<◌, ◌≤◌};
 ghost use Rattle.kc_cells.specs.Mvar.{mvar_cells_end};
-ghost use Rattle.kc_queue.specs.Meaning.{cells_end};
+ghost use Rattle.kc_queue.specs.Meaning.{queue_cells_end};
 
 use crate::asserts::equal;
 use crate::callers::{ONE, UNTIL_ONE, opened, reply};
@@ -39,8 +39,8 @@ fn hand_on<R: Wait>(
     to: Queue,
 ) -> Option<u32>
     requires caller { caller.old.of ≡ store.now }
-    requires from { cells_end from ≤ store.now.locations }
-    requires to { cells_end to ≤ store.now.locations }
+    requires from { queue_cells_end from ≤ store.now.locations }
+    requires to { queue_cells_end to ≤ store.now.locations }
     ensures { caller.new.of ≡ caller.old.of }
 {
     let take = QueueOp {
@@ -67,8 +67,8 @@ fn pass_on<R: Wait>(
     to: Queue,
 ) -> Option<u32>
     requires caller { caller.of ≡ store.now }
-    requires from { cells_end from ≤ store.now.locations }
-    requires to { cells_end to ≤ store.now.locations }
+    requires from { queue_cells_end from ≤ store.now.locations }
+    requires to { queue_cells_end to ≤ store.now.locations }
 {
     let mut last = None;
     for _ in 0..500 {

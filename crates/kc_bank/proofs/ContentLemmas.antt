@@ -1,10 +1,10 @@
 use Rattle.std.proofs.Common.{◌≡◌, ◌≢◌, ◌++◌, ◌+◌, ◌%◌, ◌^◌, ℕ, List, Option, Some, None, ap, refl, subst, sym}
-use Rattle.kc_bank.specs.Bank.{credit_meaning, credited, find_of, put_of}
+use Rattle.kc_bank.specs.Bank.{credit_meaning, credited, find_of, credit_put}
 use Rattle.kc_bank.specs.Content.{credit_found, credit_value}
 use Rattle.kc_bank.specs.declared.bank.Credit.{Credit}
 use Rattle.kc_bank.specs.declared.bank.TheConstants.{DIVIDEND}
 use Rattle.kc_hash.proofs.Values.{hash_means}
-use Rattle.kc_hash.specs.Content.{StandsFor, hash_value, put_value, value_at}
+use Rattle.kc_hash.specs.Content.{HashStandsFor, hash_value, put_value, value_at}
 use Rattle.kc_hash.specs.Meaning.{hash_meaning}
 use Rattle.kc_model.specs.declared.Reply.{Reply}
 use Rattle.kc_model.specs.declared.Reply.TheVariants.{Bool, Cancelled, Empty, Full, Many, Stranded, Unit, Value}
@@ -51,13 +51,13 @@ means_then stands p q c v w first second n m ks st fits =
 
 abbrev pub credited_value : Credit → List (ℕ × ℕ) → Reply → Comes (List (ℕ × ℕ))
 credited_value c pairs (Value b) =
-    hash_value c.accounts (put_of c ((b + DIVIDEND) % 2 ^ 32)).act pairs
+    hash_value c.accounts (credit_put c ((b + DIVIDEND) % 2 ^ 32)).act pairs
 credited_value c pairs _ = comes_to (replied Empty) pairs
 
 pub credited_means : (c : Credit) (pairs : List (ℕ × ℕ)) (a : Reply) →
-    MeansItsValue (StandsFor c.accounts) (credited c a) pairs (credited_value c pairs a)
+    MeansItsValue (HashStandsFor c.accounts) (credited c a) pairs (credited_value c pairs a)
 credited_means c pairs Unit = λ n m ks st h. (refl, st)
-credited_means c pairs (Value b) = hash_means (put_of c ((b + DIVIDEND) % 2 ^ 32)) pairs
+credited_means c pairs (Value b) = hash_means (credit_put c ((b + DIVIDEND) % 2 ^ 32)) pairs
 credited_means c pairs (Bool b) = λ n m ks st h. (refl, st)
 credited_means c pairs Empty = λ n m ks st h. (refl, st)
 credited_means c pairs Full = λ n m ks st h. (refl, st)
@@ -74,10 +74,10 @@ credit_comes c pairs (Some b) e =
 
 -- on cells that stand for accounts, a credit adds to its account's balance, or replies Empty
 pub credit_means : (c : Credit) (pairs : List (ℕ × ℕ)) →
-    MeansItsValue (StandsFor c.accounts) (credit_meaning c) pairs (credit_value c pairs)
+    MeansItsValue (HashStandsFor c.accounts) (credit_meaning c) pairs (credit_value c pairs)
 credit_means c pairs =
-    subst (λ v. MeansItsValue (StandsFor c.accounts) (credit_meaning c) pairs v)
+    subst (λ v. MeansItsValue (HashStandsFor c.accounts) (credit_meaning c) pairs v)
     (credit_comes c pairs (value_at pairs c.account) refl)
-    (means_then (StandsFor c.accounts) (hash_meaning (find_of c)) (credited c) pairs
+    (means_then (HashStandsFor c.accounts) (hash_meaning (find_of c)) (credited c) pairs
     (hash_value c.accounts (find_of c).act pairs) (credited_value c pairs) (hash_means (find_of c) pairs)
     (λ a e. credited_means c pairs a))

@@ -2,7 +2,7 @@ use Rattle.std.proofs.Common.{◌≡◌, ◌∙◌, ◌+◌, ◌<◌, ◌∷◌,
 use Rattle.std.proofs.Math.ListN.{get_or-append}
 use Rattle.std.proofs.lemmas.List.{get_or-append-add}
 use Rattle.std.proofs.lemmas.List.FromFn.{get_or-map-range_with_len, length-map-range_with_len, map-range_with_len_more}
-use Rattle.kc_bank.specs.Opening.{empty_bank, empty_line, no_accounts, values_of}
+use Rattle.kc_bank.specs.Opening.{empty_bank, empty_line, no_accounts, cell_values}
 use Rattle.kc_hash.specs.Content.{hash_opening}
 use Rattle.kc_hash.specs.Meaning.{hash_cells}
 use Rattle.kc_hash.specs.declared.Hash.{Hash}
@@ -13,10 +13,10 @@ use Rattle.kc_xt.specs.Meaning.{values}
 use Rattle.kc_xt.specs.Structure.{Opened}
 
 -- one more value was added
-pub values_more : (opening : ℕ → ℕ) (i : ℕ) (front before more : List ℕ) → before ≡ front ++ values_of opening i →
-    more ≡ before ++ opening i ∷ [] → more ≡ front ++ values_of opening (i + 1)
+pub values_more : (opening : ℕ → ℕ) (i : ℕ) (front before more : List ℕ) → before ≡ front ++ cell_values opening i →
+    more ≡ before ++ opening i ∷ [] → more ≡ front ++ cell_values opening (i + 1)
 values_more opening i front before more so_far e =
-    e ∙ ap (λ xs. xs ++ opening i ∷ []) so_far ∙ append_assoc front (values_of opening i) (opening i ∷ []) ∙
+    e ∙ ap (λ xs. xs ++ opening i ∷ []) so_far ∙ append_assoc front (cell_values opening i) (opening i ∷ []) ∙
     ap (λ xs. front ++ xs) (sym (map-range_with_len_more opening 0 i i (omega arith)))
 
 -- an opened store has the values, all at version 0
@@ -32,14 +32,14 @@ opened_fresh (v ∷ vs) (suc l) = opened_fresh vs l
 
 -- a structure's values stand behind what is in front of them
 behind : (front : List ℕ) (opening : ℕ → ℕ) (n lo i : ℕ) → length front ≡ lo → i < n →
-    get_or (front ++ values_of opening n) (lo + i) 0 ≡ opening i
+    get_or (front ++ cell_values opening n) (lo + i) 0 ≡ opening i
 behind front opening n lo i at lt =
-    subst (λ l. get_or (front ++ values_of opening n) (l + i) 0 ≡ opening i) at
-    (get_or-append-add front (values_of opening n) i 0 ∙
+    subst (λ l. get_or (front ++ cell_values opening n) (l + i) 0 ≡ opening i) at
+    (get_or-append-add front (cell_values opening n) i 0 ∙
     get_or-map-range_with_len opening 0 n i i 0 lt (omega arith))
 
-long : (front : List ℕ) (opening : ℕ → ℕ) (n : ℕ) → length (front ++ values_of opening n) ≡ length front + n
-long front opening n = omega (arith, length-append front (values_of opening n), length-map-range_with_len opening 0 n)
+long : (front : List ℕ) (opening : ℕ → ℕ) (n : ℕ) → length (front ++ cell_values opening n) ≡ length front + n
+long front opening n = omega (arith, length-append front (cell_values opening n), length-map-range_with_len opening 0 n)
 
 module _ (accounts : Hash) (line urgent : Queue) where
   abbrev to_accounts : List ℕ

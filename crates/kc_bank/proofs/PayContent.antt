@@ -1,20 +1,20 @@
 use Rattle.std.proofs.Common.{◌≡◌, ◌≢◌, ◌<◌, ◌≤◌, ◌+◌, ◌%◌, ◌^◌, ◌∷◌, ◌∙◌, ℕ, List, [], ap, arith, inl, inr, refl, subst, sym}
 use Rattle.kc_bank.proofs.ContentLemmas.{credit_means, means_then, then_on}
-use Rattle.kc_bank.specs.Bank.{credit_meaning, credit_of, credited, find_of, next_of, paid, pay_meaning, put_of}
+use Rattle.kc_bank.specs.Bank.{credit_meaning, credit_of, credited, find_of, next_of, paid, pay_meaning, credit_put}
 use Rattle.kc_bank.specs.Content.{LieApart, LineAndAccounts, credit_value, pay_value}
 use Rattle.kc_bank.specs.declared.bank.Credit.{Credit}
 use Rattle.kc_bank.specs.declared.bank.PayNext.{PayNext}
 use Rattle.kc_bank.specs.declared.bank.TheConstants.{DIVIDEND}
 use Rattle.kc_hash.proofs.HashLaw.{hash_stays}
 use Rattle.kc_hash.proofs.Chained.{same_cells}
-use Rattle.kc_hash.specs.Meaning.{cells_end as accounts_end, hash_begin, hash_meaning, hash_program}
+use Rattle.kc_hash.specs.Meaning.{hash_cells_end as accounts_end, hash_begin, hash_meaning, hash_program}
 use Rattle.kc_hash.specs.declared.HashOp.{HashOp}
 use Rattle.kc_model.specs.declared.Reply.{Reply}
 use Rattle.kc_model.specs.declared.Reply.TheVariants.{Bool, Cancelled, Empty, Full, Many, Stranded, Unit, Value}
 use Rattle.kc_queue.proofs.QueueLaw.{queue_stays}
 use Rattle.kc_queue.proofs.Standing.{queue_own}
 use Rattle.kc_queue.proofs.Values.{queue_means}
-use Rattle.kc_queue.specs.Meaning.{cells_end as line_end, queue_begin, queue_meaning, queue_program, queue_value}
+use Rattle.kc_queue.specs.Meaning.{queue_cells_end as line_end, queue_begin, queue_meaning, queue_program, queue_value}
 use Rattle.kc_term.proofs.Closed.{map_after-append}
 use Rattle.kc_xt.proofs.Stay.{stays_outside}
 use Rattle.kc_xt.specs.Meaning.{Meaning, Outcome, Run, Touch, map_after, replied, retried, then_meaning, then_run, too_large}
@@ -47,7 +47,7 @@ account_leaves o l outside n m ks =
 pub credited_leaves : (c : Credit) → (l : ℕ) →
     IsOutside c.accounts.base.0 (accounts_end c.accounts) l → (a : Reply) → Leaves l (credited c a)
 credited_leaves c l outside Unit = λ n m ks. refl
-credited_leaves c l outside (Value b) = account_leaves (put_of c ((b + DIVIDEND) % 2 ^ 32)) l outside
+credited_leaves c l outside (Value b) = account_leaves (credit_put c ((b + DIVIDEND) % 2 ^ 32)) l outside
 credited_leaves c l outside (Bool b) = λ n m ks. refl
 credited_leaves c l outside Empty = λ n m ks. refl
 credited_leaves c l outside Full = λ n m ks. refl

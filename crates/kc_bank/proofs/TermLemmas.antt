@@ -1,13 +1,13 @@
 use Rattle.std.proofs.Common.{◌≤◌, ◌+◌, ◌++◌, ◌∷◌, ◌%◌, ◌^◌, [], List, arith}
 use Rattle.kc_bank.proofs.PayLemmas.{then_one}
-use Rattle.kc_bank.specs.Bank.{BankIsFit, LieInBank, LiesInBank, bank_meaning, bank_op_end, credit_of, credited, find_of, next_of, paid, put_of}
+use Rattle.kc_bank.specs.Bank.{BankIsFit, LieInBank, LiesInBank, bank_meaning, bank_op_end, credit_of, credited, find_of, next_of, paid, credit_put}
 use Rattle.kc_bank.specs.declared.bank.BankOp.{BankOp}
 use Rattle.kc_bank.specs.declared.bank.BankOp.TheVariants.{Account, Count, Line, Pay}
 use Rattle.kc_bank.specs.declared.bank.Credit.{Credit}
 use Rattle.kc_bank.specs.declared.bank.PayNext.{PayNext}
 use Rattle.kc_bank.specs.declared.bank.TheConstants.{BANK_CELLS, DIVIDEND}
 use Rattle.kc_hash.proofs.HashLaw.{hash_stays}
-use Rattle.kc_hash.specs.Meaning.{cells_end, hash_begin, hash_meaning, hash_program}
+use Rattle.kc_hash.specs.Meaning.{hash_cells_end, hash_begin, hash_meaning, hash_program}
 use Rattle.kc_hash.specs.declared.HashOp.{HashOp}
 use Rattle.kc_loc.proofs.LocLaw.{loc_stays}
 use Rattle.kc_loc.specs.Meaning.{loc_begin, loc_last, loc_program}
@@ -27,11 +27,11 @@ each_append P [] ys left right = right
 each_append P (x ∷ xs) ys left right = (left.0, each_append P xs ys left.1 right)
 
 pub account_one : (o : HashOp) → RepliesOneItem (hash_meaning o)
-account_one o = stays_one (hash_begin o) (cells_end o.hash) (hash_program o.hash o.act replies) (hash_stays o)
+account_one o = stays_one (hash_begin o) (hash_cells_end o.hash) (hash_program o.hash o.act replies) (hash_stays o)
 
 pub credited_one : (c : Credit) → (a : Reply) → RepliesOneItem (credited c a)
 credited_one c Unit = λ n m ks. tt
-credited_one c (Value v) = account_one (put_of c ((v + DIVIDEND) % 2 ^ 32))
+credited_one c (Value v) = account_one (credit_put c ((v + DIVIDEND) % 2 ^ 32))
 credited_one c (Bool b) = λ n m ks. tt
 credited_one c Empty = λ n m ks. tt
 credited_one c Full = λ n m ks. tt

@@ -22,13 +22,13 @@ use Rattle.kc_xt.specs.Program.{meaning, replies}
 abbrev pub find_of : Credit → HashOp
 find_of c = record { hash = c.accounts; act = Find c.account }
 
-abbrev pub put_of : Credit → ℕ → HashOp
-put_of c balance = record { hash = c.accounts; act = Put c.account balance }
+abbrev pub credit_put : Credit → ℕ → HashOp
+credit_put c balance = record { hash = c.accounts; act = Put c.account balance }
 
 -- the balance grows by the dividend, where there is one
 abbrev pub credited : Credit → Reply → Meaning
 credited c (Value balance) =
-    hash_meaning (put_of c ((balance + DIVIDEND) % 2 ^ 32))
+    hash_meaning (credit_put c ((balance + DIVIDEND) % 2 ^ 32))
 credited c _ = meaning (replies Empty)
 
 abbrev pub credit_meaning : Credit → Meaning

@@ -4,10 +4,10 @@ use Rattle.kc_bank.specs.declared.bank.Credit.{Credit}
 use Rattle.kc_bank.specs.declared.bank.PayNext.{PayNext}
 use Rattle.kc_bank.specs.declared.bank.TheConstants.{DIVIDEND}
 use Rattle.kc_hash.specs.Content.{value_at, with_pair}
-use Rattle.kc_hash.specs.Content.{StandsFor as AccountsAre}
-use Rattle.kc_hash.specs.Meaning.{cells_end as accounts_end}
+use Rattle.kc_hash.specs.Content.{HashStandsFor as AccountsAre}
+use Rattle.kc_hash.specs.Meaning.{hash_cells_end as accounts_end}
 use Rattle.kc_model.specs.declared.Reply.TheVariants.{Empty, Unit}
-use Rattle.kc_queue.specs.Meaning.{StandsFor as LineIs, cells_end as line_end}
+use Rattle.kc_queue.specs.Meaning.{QueueStandsFor as LineIs, queue_cells_end as line_end}
 use Rattle.kc_xt.specs.Meaning.{replied, retried}
 use Rattle.kc_xt.specs.Structure.{Standing, Value, comes_to}
 

@@ -2,9 +2,9 @@
 use Rattle.std.specs.Prelude.{◌≡◌, ℕ, []}
 use Rattle.kc_bank.specs.declared.bank.Bank.{Bank}
 use Rattle.kc_bank.specs.declared.teller.Teller.{Teller}
-use Rattle.kc_hash.specs.Content.{StandsFor as AccountsAre}
+use Rattle.kc_hash.specs.Content.{HashStandsFor as AccountsAre}
 use Rattle.kc_model.specs.Store.{store_of}
-use Rattle.kc_queue.specs.Meaning.{StandsFor as LineIs}
+use Rattle.kc_queue.specs.Meaning.{QueueStandsFor as LineIs}
 use Rattle.kc_xt.specs.Meaning.{values}
 
 -- where the bank's structures lie

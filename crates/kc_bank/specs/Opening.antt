@@ -8,14 +8,14 @@ use Rattle.kc_queue.specs.Meaning.{queue_cells, queue_opening}
 use Rattle.kc_queue.specs.declared.Queue.{Queue}
 
 -- the values of these many cells
-abbrev pub values_of : (ℕ → ℕ) → ℕ → List ℕ
-values_of opening cells = map opening (range_with_len 0 cells)
+abbrev pub cell_values : (ℕ → ℕ) → ℕ → List ℕ
+cell_values opening cells = map opening (range_with_len 0 cells)
 
 abbrev pub no_accounts : Hash → List ℕ
-no_accounts accounts = values_of (hash_opening accounts) (hash_cells accounts)
+no_accounts accounts = cell_values (hash_opening accounts) (hash_cells accounts)
 
 abbrev pub empty_line : Queue → List ℕ
-empty_line line = values_of (queue_opening line) (queue_cells line)
+empty_line line = cell_values (queue_opening line) (queue_cells line)
 
 -- no payout was made, there are no accounts, and both lines are empty
 abbrev pub empty_bank : Hash → Queue → Queue → List ℕ

@@ -1,8 +1,8 @@
 use Rattle.std.specs.Prelude.{◌≤◌}
 use Rattle.kc_bank.specs.declared.bank.TheConstants.{BANK_CELLS}
-use Rattle.kc_hash.specs.Meaning.{cells_end as accounts_end}
+use Rattle.kc_hash.specs.Meaning.{hash_cells_end as accounts_end}
 use Rattle.kc_hash.specs.declared.Hash.{Hash}
-use Rattle.kc_queue.specs.Meaning.{cells_end as line_end}
+use Rattle.kc_queue.specs.Meaning.{queue_cells_end as line_end}
 use Rattle.kc_queue.specs.declared.Queue.{Queue}
 
 -- the table's cells are the bank's

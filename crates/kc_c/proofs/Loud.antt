@@ -1,6 +1,6 @@
 -- One operation alone, which was made silently.
 use Rattle.std.proofs.Common.{◌≡◌, ◌≢◌, ◌≤◌, ◌==◌, ℕ, Bool, true, false, List, [], ◌∷◌, ◌++◌, length, drop, slice_set, refl, sym, ap, ◌∙◌, subst, arith, eq-eqb, eqb-true}
-use Rattle.kc_c.specs.Tries.{IsToldBy, IsTried, IsTriedSilently, number_of, written}
+use Rattle.kc_c.specs.Tries.{IsRepliedByItsRead, IsTried, IsTriedSilently, verdict_number, replies_written}
 use Rattle.kc_c.specs.declared.answers.TheConstants.{DONE}
 use Rattle.kc_c.specs.declared.client.Client.{Client}
 use Rattle.kc_c.specs.declared.standing.Standing.TheVariants as standing
@@ -8,7 +8,7 @@ use Rattle.kc_calls.proofs.Aloud.{done_aloud, waits_aloud, too_large_aloud, wear
 use Rattle.kc_calls.specs.Alone.{IsAlone, first_value, reply_on}
 use Rattle.kc_calls.specs.Meaning.{calls_end, calls_meaning}
 use Rattle.kc_calls.specs.Silent.{silent}
-use Rattle.kc_calls.specs.Told.{told}
+use Rattle.kc_calls.specs.Told.{replies_told}
 use Rattle.kc_calls.specs.declared.operation.KcasOp.{KcasOp}
 use Rattle.kc_calls.specs.declared.reply.KcasReply.{KcasReply}
 use Rattle.kc_loc.specs.Meaning.{loc_end, loc_meaning}
@@ -30,7 +30,7 @@ abbrev pub loud : LocOp → Footprint → Verdict → Verdict
 loud o f (verdict.Done r) = verdict.Done (reply_on o (first_value f.reads.items))
 loud o f v = v
 
-same_number : (o : LocOp) (f : Footprint) (v : Verdict) → number_of v ≡ number_of (loud o f v)
+same_number : (o : LocOp) (f : Footprint) (v : Verdict) → verdict_number v ≡ verdict_number (loud o f v)
 same_number o f (verdict.Done r) = refl
 same_number o f verdict.Later = refl
 same_number o f verdict.TooLarge = refl
@@ -64,12 +64,12 @@ module _ (locations : ℕ) (ops : List KcasOp) (o : LocOp) (alone : IsAlone loca
   loud_within : (v : Verdict) → (has_entry v ≡ true → IsBelow (loc_end o) f) → has_entry (loud o f v) ≡ true → IsBelow (calls_end ops) f
   loud_within v h e = subst (λ n. IsBelow n f) (sym alone.end) (h (sym (same_entry o f v) ∙ e))
 
-  one_written : (before : List KcasReply) (rs : List Item) (x : KcasReply) → length ops ≤ length before → told rs 1 ≡ x ∷ [] → slice_set before 0 x ≡ told rs (length ops) ++ drop (length ops) before
+  one_written : (before : List KcasReply) (rs : List Item) (x : KcasReply) → length ops ≤ length before → replies_told rs 1 ≡ x ∷ [] → slice_set before 0 x ≡ replies_told rs (length ops) ++ drop (length ops) before
   one_written [] rs x le e = absurd (omega (arith, le, alone.count))
-  one_written (y ∷ ys) rs x le e = sym (ap (λ n. told rs n ++ drop n (y ∷ ys)) alone.count ∙ ap (λ zs. zs ++ drop 1 (y ∷ ys)) e)
+  one_written (y ∷ ys) rs x le e = sym (ap (λ n. replies_told rs n ++ drop n (y ∷ ys)) alone.count ∙ ap (λ zs. zs ++ drop 1 (y ∷ ys)) e)
 
   -- the one reply, where it was done
-  pub loud_written : (v : Verdict) (before : List KcasReply) (x : KcasReply) → number_of v ≡ DONE → length ops ≤ length before → told (items_of (reply_on o (first_value f.reads.items))) 1 ≡ x ∷ [] → slice_set before 0 x ≡ written ops (loud o f v) before
+  pub loud_written : (v : Verdict) (before : List KcasReply) (x : KcasReply) → verdict_number v ≡ DONE → length ops ≤ length before → replies_told (items_of (reply_on o (first_value f.reads.items))) 1 ≡ x ∷ [] → slice_set before 0 x ≡ replies_written ops (loud o f v) before
   loud_written (verdict.Done r) before x n le e = one_written before _ x le e
   loud_written verdict.Later before x n le e = absurd (omega (arith, n))
   loud_written verdict.TooLarge before x n le e = absurd (omega (arith, n))
@@ -79,7 +79,7 @@ module _ (locations : ℕ) (ops : List KcasOp) (o : LocOp) (alone : IsAlone loca
   loud_written (verdict.Busy k) before x n le e = absurd (omega (arith, n))
 
   -- and else none
-  pub none_written : (v : Verdict) (before : List KcasReply) → number_of v ≢ DONE → before ≡ written ops (loud o f v) before
+  pub none_written : (v : Verdict) (before : List KcasReply) → verdict_number v ≢ DONE → before ≡ replies_written ops (loud o f v) before
   none_written (verdict.Done r) before n = absurd (n refl)
   none_written verdict.Later before n = refl
   none_written verdict.TooLarge before n = refl
@@ -90,7 +90,7 @@ module _ (locations : ℕ) (ops : List KcasOp) (o : LocOp) (alone : IsAlone loca
 
 -- ---- the try
 
-tried_alone : (locations : ℕ) (ops : List KcasOp) (o : LocOp) → IsAlone locations ops o → (c d : Client) (k j : CallerView) (n : ℕ) (v : Verdict) (before after : List KcasReply) → c.standing ≡ standing.Rests k → d.standing ≡ standing.Rests j → n ≡ number_of v → IsTold (limited MOST (silent (loc_meaning o))) v k d.footprint j → Remembers k j → (has_entry v ≡ true → IsBelow (loc_end o) d.footprint) → after ≡ written ops (loud o d.footprint v) before → IsTried ops c n d before after
+tried_alone : (locations : ℕ) (ops : List KcasOp) (o : LocOp) → IsAlone locations ops o → (c d : Client) (k j : CallerView) (n : ℕ) (v : Verdict) (before after : List KcasReply) → c.standing ≡ standing.Rests k → d.standing ≡ standing.Rests j → n ≡ verdict_number v → IsTold (limited MOST (silent (loc_meaning o))) v k d.footprint j → Remembers k j → (has_entry v ≡ true → IsBelow (loc_end o) d.footprint) → after ≡ replies_written ops (loud o d.footprint v) before → IsTried ops c n d before after
 tried_alone locations ops o alone c d k j n v before after rested rests number told remembers within replies = record {
   caller = k;
   rested = rested;
@@ -104,9 +104,9 @@ tried_alone locations ops o alone c d k j n v before after rested rests number t
   replies = replies;
 }
 
-pub tried_silently : (locations : ℕ) (ops : List KcasOp) (o : LocOp) → IsAlone locations ops o → (c d : Client) (k j : CallerView) (n : ℕ) (before after : List KcasReply) → c.standing ≡ standing.Rests k → d.standing ≡ standing.Rests j → length ops ≤ length before → IsTriedSilently (limited MOST (silent (loc_meaning o))) (loc_end o) n k j d.footprint → IsToldBy o d.footprint n before after → IsTried ops c n d before after
+pub tried_silently : (locations : ℕ) (ops : List KcasOp) (o : LocOp) → IsAlone locations ops o → (c d : Client) (k j : CallerView) (n : ℕ) (before after : List KcasReply) → c.standing ≡ standing.Rests k → d.standing ≡ standing.Rests j → length ops ≤ length before → IsTriedSilently (limited MOST (silent (loc_meaning o))) (loc_end o) n k j d.footprint → IsRepliedByItsRead o d.footprint n before after → IsTried ops c n d before after
 tried_silently locations ops o alone c d k j n before after rested rests room h t = tried_alone locations ops o alone c d k j n h.verdict before after rested rests h.number h.tells h.remembers h.within (by (n == DONE) refl)
   where
-    by : (b : Bool) → (n == DONE) ≡ b → after ≡ written ops (loud o d.footprint h.verdict) before
+    by : (b : Bool) → (n == DONE) ≡ b → after ≡ replies_written ops (loud o d.footprint h.verdict) before
     by true e = let is = eqb-true n DONE e in let w = t.done is in w.1 ∙ loud_written locations ops o alone d.footprint h.verdict before w.0 (sym h.number ∙ is) room w.2
     by false e = let no : n ≢ DONE = λ is. absurd (let t : (n == DONE) ≡ true = eq-eqb n DONE is in let g = e in cc) in t.stays no ∙ none_written locations ops o alone d.footprint h.verdict before (λ v. no (h.number ∙ v))

@@ -17,8 +17,8 @@ pub record IsNew (z : StoreView) (c : CallerView) (x : Client) : Type 0 where
 abbrev pub IsOpen : KcasCaller → Type 0
 IsOpen h = h.held ≡ 1
 
-abbrev pub IsClosed : KcasCaller → Type 0
-IsClosed h = h.held ≢ 1
+abbrev pub HandleIsClosed : KcasCaller → Type 0
+HandleIsClosed h = h.held ≢ 1
 
 abbrev pub some_open : List KcasCaller → Bool
 some_open [] = false

@@ -13,8 +13,8 @@ abbrev pub IsBadSize : List ℕ → List KcasCaller → Type 0
 IsBadSize values handles = (MOST_LOCATIONS < length values) ⊎ ((length handles ≡ 0) ⊎ (MOST_CALLERS < length handles))
 
 -- a store was opened, or why not: then no handle is open
-abbrev pub Opens : List ℕ → List KcasCaller → ℕ → List KcasCaller → Type 0
-Opens values old n new =
+abbrev pub OpensStore : List ℕ → List KcasCaller → ℕ → List KcasCaller → Type 0
+OpensStore values old n new =
     ((n ≡ DONE) × (¬ IsBadSize values old) × OpensAll values new) ⊎
     ((n ≡ BAD_SIZE) × IsBadSize values old × (some_open new ≡ false)) ⊎
     ((n ≡ NO_MEMORY) × (¬ IsBadSize values old) × (some_open new ≡ false))

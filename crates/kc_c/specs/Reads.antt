@@ -19,12 +19,12 @@ ReadTold (Ok r) n v₀ w₀ v w = (n ≡ DONE) × (v ≡ r.value) × (w ≡ r.ve
 ReadTold (Err e) n v₀ w₀ v w = (n ≡ BUSY) × (v ≡ v₀) × (w ≡ w₀)
 
 -- one read of the location was made, and this is told of it
-pub record IsRead (l : ℕ) (c : Client) (n : ℕ) (d : Client) (before_value before_version value version : ℕ) : Type 0 where
+pub record IsReadByCaller (l : ℕ) (c : Client) (n : ℕ) (d : Client) (before_value before_version value version : ℕ) : Type 0 where
   pub caller : CallerView
   pub rested : c.standing ≡ standing.Rests caller
   pub then_caller : CallerView
   pub rests : d.standing ≡ standing.Rests then_caller
   pub got : Result Seen ReadBusy
-  pub reads : store.IsRead l got caller then_caller
+  pub reads : store.IsReadOrBusy l got caller then_caller
   pub learns : OnlyLearns caller then_caller
   pub tells : ReadTold got n before_value before_version value version

@@ -15,20 +15,20 @@ store_in (standing.Rests c) = Some c.of
 store_in (standing.Hangs h) = Some h.caller.of
 store_in standing.Away = None
 
-abbrev pub number_in : Standing → Option ℕ
-number_in (standing.Rests c) = Some c.number
-number_in (standing.Hangs h) = Some h.caller.number
-number_in standing.Away = None
+abbrev pub caller_number_in : Standing → Option ℕ
+caller_number_in (standing.Rests c) = Some c.number
+caller_number_in (standing.Hangs h) = Some h.caller.number
+caller_number_in standing.Away = None
 
-abbrev pub is_free : HangState → Bool
-is_free state.Going = false
-is_free state.Hung = false
-is_free state.Leaving = false
-is_free state.Free = true
+abbrev pub is_free_state : HangState → Bool
+is_free_state state.Going = false
+is_free_state state.Hung = false
+is_free_state state.Leaving = false
+is_free_state state.Free = true
 
 -- it hangs no longer, and has not been given back
 abbrev pub is_over : Standing → Bool
-is_over (standing.Hangs h) = is_free h.state
+is_over (standing.Hangs h) = is_free_state h.state
 is_over _ = false
 
 abbrev pub rests : Standing → Bool

@@ -6,4 +6,4 @@ use Rattle.kc_script_bundle.specs.declared.object.Object.{Object}
 
 -- a structure's cells were laid out, or not, and then the values are as they were
 abbrev pub LaysOut : Option Object → List ℕ → ℕ → List ℕ → Type 0
-LaysOut o before n after = ((n ≡ DONE) × structure.Opens o before true after) ⊎ ((n ≡ BAD_SIZE) × structure.Opens o before false after)
+LaysOut o before n after = ((n ≡ DONE) × structure.OpensStructure o before true after) ⊎ ((n ≡ BAD_SIZE) × structure.OpensStructure o before false after)

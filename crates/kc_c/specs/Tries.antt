@@ -6,7 +6,7 @@ use Rattle.kc_c.specs.declared.standing.Standing.TheVariants as standing
 use Rattle.kc_calls.specs.Alone.{first_value, reply_on}
 use Rattle.kc_calls.specs.Meaning.{calls_end, calls_meaning}
 use Rattle.kc_calls.specs.Operations.{AreOperations}
-use Rattle.kc_calls.specs.Told.{told, told_item}
+use Rattle.kc_calls.specs.Told.{replies_told, told_item}
 use Rattle.kc_calls.specs.Words.{loc_op_words}
 use Rattle.kc_calls.specs.declared.operation.KcasOp.{KcasOp}
 use Rattle.kc_calls.specs.declared.reply.KcasReply.{KcasReply}
@@ -29,19 +29,19 @@ abbrev pub MayTry : ℕ → List KcasOp → List KcasReply → Type 0
 MayTry locations ops replies = AreOperations locations ops × (length ops ≤ length replies)
 
 -- the number that C is given
-abbrev pub number_of : Verdict → ℕ
-number_of (verdict.Done r) = DONE
-number_of verdict.Later = LATER
-number_of verdict.TooLarge = TOO_LARGE
-number_of (verdict.WornLocation loc) = WORN
-number_of verdict.WornPool = POOL_WORN
-number_of (verdict.Lost loc version) = LOST
-number_of (verdict.Busy steps) = BUSY
+abbrev pub verdict_number : Verdict → ℕ
+verdict_number (verdict.Done r) = DONE
+verdict_number verdict.Later = LATER
+verdict_number verdict.TooLarge = TOO_LARGE
+verdict_number (verdict.WornLocation loc) = WORN
+verdict_number verdict.WornPool = POOL_WORN
+verdict_number (verdict.Lost loc version) = LOST
+verdict_number (verdict.Busy steps) = BUSY
 
 -- a reply for each operation, where it was done
-abbrev pub written : List KcasOp → Verdict → List KcasReply → List KcasReply
-written ops (verdict.Done r) replies = told (items_of r) (length ops) ++ drop (length ops) replies
-written ops _ replies = replies
+abbrev pub replies_written : List KcasOp → Verdict → List KcasReply → List KcasReply
+replies_written ops (verdict.Done r) replies = replies_told (items_of r) (length ops) ++ drop (length ops) replies
+replies_written ops _ replies = replies
 
 -- one try of them was made as one transaction, and the number says what became of it
 pub record IsTried (ops : List KcasOp) (c : Client) (n : ℕ) (d : Client) (before after : List KcasReply) : Type 0 where
@@ -50,23 +50,23 @@ pub record IsTried (ops : List KcasOp) (c : Client) (n : ℕ) (d : Client) (befo
   pub then_caller : CallerView
   pub rests : d.standing ≡ standing.Rests then_caller
   pub verdict : Verdict
-  pub number : n ≡ number_of verdict
+  pub number : n ≡ verdict_number verdict
   pub told : IsTold (limited MOST (calls_meaning ops)) verdict caller d.footprint then_caller
   pub remembers : Remembers caller then_caller
   pub within : has_entry verdict ≡ true → IsBelow (calls_end ops) d.footprint
-  pub replies : after ≡ written ops verdict before
+  pub replies : after ≡ replies_written ops verdict before
 
 -- one try was made of what means this
 pub record IsTriedSilently (m : Meaning) (end : ℕ) (n : ℕ) (c d : CallerView) (f : Footprint) : Type 0 where
   pub verdict : Verdict
-  pub number : n ≡ number_of verdict
+  pub number : n ≡ verdict_number verdict
   pub tells : IsTold m verdict c f d
   pub remembers : Remembers c d
   pub within : has_entry verdict ≡ true → IsBelow end f
 
 -- where it was done, the first reply is what the operation replies by what was read
-pub record IsToldBy (o : LocOp) (f : Footprint) (n : ℕ) (before after : List KcasReply) : Type 0 where
-  pub done : n ≡ DONE → (x : KcasReply) × (after ≡ slice_set before 0 x) × (told (items_of (reply_on o (first_value f.reads.items))) 1 ≡ x ∷ [])
+pub record IsRepliedByItsRead (o : LocOp) (f : Footprint) (n : ℕ) (before after : List KcasReply) : Type 0 where
+  pub done : n ≡ DONE → (x : KcasReply) × (after ≡ slice_set before 0 x) × (replies_told (items_of (reply_on o (first_value f.reads.items))) 1 ≡ x ∷ [])
   pub stays : n ≢ DONE → after ≡ before
 
 -- ---- an add

@@ -2,7 +2,7 @@
 
 ghost use Rattle.std.specs.Prelude.{◌≡◌, ◌≤◌, Some, false};
 ghost use Rattle.std.specs.Arc.{arc_value};
-ghost use Rattle.kc_c.specs.Standings.{is_over, number_in, store_in};
+ghost use Rattle.kc_c.specs.Standings.{is_over, caller_number_in, store_in};
 ghost use Rattle.kc_model.specs.declared.plain_store.TheConstants.{MOST_LOCATIONS};
 
 use crate::standing::Standing;
@@ -22,7 +22,7 @@ pub struct Client {
     pub(crate) locations: u32,
     pub(crate) number: u32,
     ghost of: { store_in standing ≡ Some (arc_value store) },
-    ghost numbered: { number_in standing ≡ Some number },
+    ghost numbered: { caller_number_in standing ≡ Some number },
     ghost on: { is_over standing ≡ false },
     ghost size: { locations ≡ (arc_value store).locations },
     ghost few: { locations ≤ MOST_LOCATIONS },

@@ -1,9 +1,9 @@
 //! What C calls to open and close handles.
 
 ghost use Rattle.std.specs.Prelude.{◌≡◌, ◌==◌, Some, false, true, if◌then◌else◌, length};
-ghost use Rattle.kc_c.specs.Openings.{Opens, number_of_error};
-ghost use Rattle.kc_c.specs.Clients.{IsClosed, IsOpen, some_open};
-ghost use Rattle.kc_c.specs.Standings.{number_in};
+ghost use Rattle.kc_c.specs.Openings.{OpensStore, number_of_error};
+ghost use Rattle.kc_c.specs.Clients.{HandleIsClosed, IsOpen, some_open};
+ghost use Rattle.kc_c.specs.Standings.{caller_number_in};
 
 use crate::answers::{BAD_SIZE, CLOSED, DONE, IS_OPEN, NO_MEMORY, NO_NUMBER};
 use crate::handle::KcasCaller;
@@ -17,7 +17,7 @@ use std::alloc::Global;
 #[unsafe(no_mangle)]
 pub extern "C" fn kcas_open(alloc: Global, values: &[u32], callers: &mut [KcasCaller]) -> u32
     ensures is_open { some_open callers.old ≡ true → (result ≡ IS_OPEN) × (callers.new ≡ callers.old) }
-    ensures opens { some_open callers.old ≡ false → Opens values.now callers.old result callers.new }
+    ensures opens { some_open callers.old ≡ false → OpensStore values.now callers.old result callers.new }
     ensures count { length callers.new ≡ length callers.old }
 {
     if some_is_open(callers) {
@@ -44,8 +44,8 @@ fn number_of_error(error: OpenError) -> u32
 /// Closes the handle, whose caller is gone for good, and with the last one the store: DONE. CLOSED where it was closed.
 #[unsafe(no_mangle)]
 pub extern "C" fn kcas_close(alloc: Global, caller: &mut KcasCaller) -> u32
-    ensures closed { IsClosed caller.old → (result ≡ CLOSED) × (caller.new ≡ caller.old) }
-    ensures closes { IsOpen caller.old → (result ≡ DONE) × IsClosed caller.new }
+    ensures closed { HandleIsClosed caller.old → (result ≡ CLOSED) × (caller.new ≡ caller.old) }
+    ensures closes { IsOpen caller.old → (result ≡ DONE) × HandleIsClosed caller.new }
 {
     if !caller.is_open() {
         return CLOSED;
@@ -66,8 +66,8 @@ pub extern "C" fn kcas_is_open(caller: &mut KcasCaller) -> u32
 /// The number of the handle's caller in its store, from 0 on, by which others' wakes name it; 0xFFFFFFFF where it is closed.
 #[unsafe(no_mangle)]
 pub extern "C" fn kcas_number(alloc: Global, caller: &mut KcasCaller) -> u32
-    ensures closed { IsClosed caller.old → (result ≡ NO_NUMBER) × (caller.new ≡ caller.old) }
-    ensures number { IsOpen caller.old → number_in caller.old.value.standing ≡ Some result }
+    ensures closed { HandleIsClosed caller.old → (result ≡ NO_NUMBER) × (caller.new ≡ caller.old) }
+    ensures number { IsOpen caller.old → caller_number_in caller.old.value.standing ≡ Some result }
     ensures same { IsOpen caller.old → IsOpen caller.new × (caller.new.value ≡ caller.old.value) }
 {
     if !caller.is_open() {

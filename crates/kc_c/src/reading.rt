@@ -1,7 +1,7 @@
 //! What C reads beside transactions.
 
 ghost use Rattle.std.specs.Prelude.{◌≡◌, ◌≤◌, ◌<◌, ◌++◌, false, true, drop, length, map, min, take};
-ghost use Rattle.kc_c.specs.Reads.{IsRead, read_told};
+ghost use Rattle.kc_c.specs.Reads.{IsReadByCaller, read_told};
 ghost use Rattle.kc_c.specs.Standings.{rests};
 
 use crate::answers::{BAD_OPS, BUSY, DONE, NOT_NOW};
@@ -23,7 +23,7 @@ impl Client {
     pub(crate) fn read(&mut self, location: u32, value: &mut u32, version: &mut u32) -> u32
         ensures not_now { rests self.old.standing ≡ false → (result ≡ NOT_NOW) × (self.new ≡ self.old) × (value.new ≡ value.old) × (version.new ≡ version.old) }
         ensures outside { rests self.old.standing ≡ true → self.old.locations ≤ location → (result ≡ BAD_OPS) × (self.new ≡ self.old) × (value.new ≡ value.old) × (version.new ≡ version.old) }
-        ensures read { rests self.old.standing ≡ true → location < self.old.locations → IsRead location self.old result self.new value.old version.old value.new version.new }
+        ensures read { rests self.old.standing ≡ true → location < self.old.locations → IsReadByCaller location self.old result self.new value.old version.old value.new version.new }
     {
         let Client {
             store,

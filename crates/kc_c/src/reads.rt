@@ -1,8 +1,8 @@
 //! What C calls to read beside transactions.
 
 ghost use Rattle.std.specs.Prelude.{◌≡◌, ◌≤◌, ◌<◌, ◌++◌, false, true, drop, length, map, min, take};
-ghost use Rattle.kc_c.specs.Clients.{IsClosed, IsOpen};
-ghost use Rattle.kc_c.specs.Reads.{IsRead, read_told};
+ghost use Rattle.kc_c.specs.Clients.{HandleIsClosed, IsOpen};
+ghost use Rattle.kc_c.specs.Reads.{IsReadByCaller, read_told};
 ghost use Rattle.kc_c.specs.Standings.{rests};
 
 use crate::answers::{BAD_OPS, CLOSED, NOT_NOW};
@@ -20,11 +20,11 @@ pub extern "C" fn kcas_read(
     value: &mut u32,
     version: &mut u32,
 ) -> u32
-    ensures closed { IsClosed caller.old → (result ≡ CLOSED) × (caller.new ≡ caller.old) × (value.new ≡ value.old) × (version.new ≡ version.old) }
+    ensures closed { HandleIsClosed caller.old → (result ≡ CLOSED) × (caller.new ≡ caller.old) × (value.new ≡ value.old) × (version.new ≡ version.old) }
     ensures stays { IsOpen caller.old → IsOpen caller.new }
     ensures not_now { IsOpen caller.old → rests caller.old.value.standing ≡ false → (result ≡ NOT_NOW) × (caller.new.value ≡ caller.old.value) × (value.new ≡ value.old) × (version.new ≡ version.old) }
     ensures outside { IsOpen caller.old → rests caller.old.value.standing ≡ true → caller.old.value.locations ≤ location → (result ≡ BAD_OPS) × (caller.new.value ≡ caller.old.value) × (value.new ≡ value.old) × (version.new ≡ version.old) }
-    ensures read { IsOpen caller.old → rests caller.old.value.standing ≡ true → location < caller.old.value.locations → IsRead location caller.old.value result caller.new.value value.old version.old value.new version.new }
+    ensures read { IsOpen caller.old → rests caller.old.value.standing ≡ true → location < caller.old.value.locations → IsReadByCaller location caller.old.value result caller.new.value value.old version.old value.new version.new }
 {
     if !caller.is_open() {
         return CLOSED;
@@ -43,7 +43,7 @@ pub extern "C" fn kcas_reads(
     caller: &mut KcasCaller,
     reads: &mut [KcasSeen],
 ) -> usize
-    ensures closed { IsClosed caller.old → (result ≡ 0) × (caller.new ≡ caller.old) × (reads.new ≡ reads.old) }
+    ensures closed { HandleIsClosed caller.old → (result ≡ 0) × (caller.new ≡ caller.old) × (reads.new ≡ reads.old) }
     ensures same { IsOpen caller.old → IsOpen caller.new × (caller.new.value ≡ caller.old.value) }
     ensures count { IsOpen caller.old → result ≡ min (length caller.old.value.footprint.reads.items) (length reads.old) }
     ensures written { IsOpen caller.old → reads.new ≡ map read_told (take result caller.old.value.footprint.reads.items) ++ drop result reads.old }

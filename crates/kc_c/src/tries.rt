@@ -1,7 +1,7 @@
 //! What C calls to make a transaction.
 
 ghost use Rattle.std.specs.Prelude.{◌≡◌, ◌≤◌, ◌<◌, ◌∷◌, [], false, true};
-ghost use Rattle.kc_c.specs.Clients.{IsClosed, IsOpen};
+ghost use Rattle.kc_c.specs.Clients.{HandleIsClosed, IsOpen};
 ghost use Rattle.kc_c.specs.Standings.{rests};
 ghost use Rattle.kc_c.specs.Tries.{IsTried, MayTry, add_words, value_told};
 
@@ -24,7 +24,7 @@ pub extern "C" fn kcas_try(
     replies: &mut [KcasReply],
     wakes: &mut u64,
 ) -> u32
-    ensures closed { IsClosed caller.old → (result ≡ CLOSED) × (caller.new ≡ caller.old) × (replies.new ≡ replies.old) × (wakes.new ≡ wakes.old) }
+    ensures closed { HandleIsClosed caller.old → (result ≡ CLOSED) × (caller.new ≡ caller.old) × (replies.new ≡ replies.old) × (wakes.new ≡ wakes.old) }
     ensures stays { IsOpen caller.old → IsOpen caller.new }
     ensures not_now { IsOpen caller.old → rests caller.old.value.standing ≡ false → (result ≡ NOT_NOW) × (caller.new.value ≡ caller.old.value) × (replies.new ≡ replies.old) × (wakes.new ≡ wakes.old) }
     ensures bad_ops { IsOpen caller.old → rests caller.old.value.standing ≡ true → ¬ MayTry caller.old.value.locations ops.now replies.old → (result ≡ BAD_OPS) × (caller.new.value ≡ caller.old.value) × (replies.new ≡ replies.old) × (wakes.new ≡ wakes.old) }
@@ -53,7 +53,7 @@ pub extern "C" fn kcas_add(
     before: &mut u32,
     wakes: &mut u64,
 ) -> u32
-    ensures closed { IsClosed caller.old → (result ≡ CLOSED) × (caller.new ≡ caller.old) × (before.new ≡ before.old) × (wakes.new ≡ wakes.old) }
+    ensures closed { HandleIsClosed caller.old → (result ≡ CLOSED) × (caller.new ≡ caller.old) × (before.new ≡ before.old) × (wakes.new ≡ wakes.old) }
     ensures stays { IsOpen caller.old → IsOpen caller.new }
     ensures not_now { IsOpen caller.old → rests caller.old.value.standing ≡ false → (result ≡ NOT_NOW) × (caller.new.value ≡ caller.old.value) × (before.new ≡ before.old) × (wakes.new ≡ wakes.old) }
     ensures bad_ops { IsOpen caller.old → rests caller.old.value.standing ≡ true → caller.old.value.locations ≤ location → (result ≡ BAD_OPS) × (caller.new.value ≡ caller.old.value) × (before.new ≡ before.old) × (wakes.new ≡ wakes.old) }

@@ -3,7 +3,7 @@
 ghost use Rattle.std.specs.Prelude.{◌≡◌, ◌<◌, ◌≤◌, ◌==◌, ◌∷◌, [], false, true, length};
 ghost use Rattle.kc_c.specs.declared.answers.TheConstants.{DONE};
 ghost use Rattle.kc_c.specs.Standings.{rests};
-ghost use Rattle.kc_c.specs.Tries.{IsToldBy, IsTried, IsTriedSilently, MayTry, add_words, number_of, value_told};
+ghost use Rattle.kc_c.specs.Tries.{IsRepliedByItsRead, IsTried, IsTriedSilently, MayTry, add_words, verdict_number, value_told};
 ghost use Rattle.kc_calls.specs.Alone.{has_one_location};
 ghost use Rattle.kc_calls.specs.Meaning.{CallsAreFit, calls_end, calls_meaning};
 ghost use Rattle.kc_calls.specs.Silent.{silent};
@@ -153,7 +153,7 @@ fn try_alone(
     requires within { loc_end operation ≤ store.now.locations }
     requires room { 0 < length replies.old }
     ensures tried { IsTriedSilently (limited MOST (silent (loc_meaning operation))) (loc_end operation) result caller.old caller.new footprint.new }
-    ensures told { IsToldBy operation footprint.new result replies.old replies.new }
+    ensures told { IsRepliedByItsRead operation footprint.new result replies.old replies.new }
 {
     let silent = Silent { operation };
     let answer = try_silently(store, caller, &silent, footprint, wakes);
@@ -180,7 +180,7 @@ fn try_other(
     requires within { loc_end operation ≤ store.now.locations }
     requires room { 0 < length replies.old }
     ensures tried { IsTriedSilently (limited MOST (silent (loc_meaning operation))) (loc_end operation) result caller.old caller.new footprint.new }
-    ensures told { IsToldBy operation footprint.new result replies.old replies.new }
+    ensures told { IsRepliedByItsRead operation footprint.new result replies.old replies.new }
 {
     try_alone(store, caller, operation, footprint, replies, wakes)
 }
@@ -206,7 +206,7 @@ fn try_calls(
 }
 
 fn is_done(fate: Fate, trial: &Trial) -> bool
-    ensures { result ≡ (number_of (verdict_as fate (tried_of trial.now.went trial.now.reply)) == DONE) }
+    ensures { result ≡ (verdict_number (verdict_as fate (tried_of trial.now.went trial.now.reply)) == DONE) }
 {
     matches!(fate, Fate::Entered { .. }) && matches!(trial.went, Went::Done)
 }
@@ -215,7 +215,7 @@ fn is_done(fate: Fate, trial: &Trial) -> bool
 #[cold]
 #[inline(never)]
 fn number_of(fate: Fate, went: Went) -> u32
-    ensures { (reply : Reply) → result ≡ number_of (verdict_as fate (tried_of went reply)) }
+    ensures { (reply : Reply) → result ≡ verdict_number (verdict_as fate (tried_of went reply)) }
 {
     match fate {
         Fate::Entered { .. } => match went {

@@ -2,7 +2,7 @@
 
 ghost use Rattle.std.specs.Prelude.{◌≡◌, ◌<◌, ◌↔◌, All, IsTrue};
 ghost use Rattle.kc_c.specs.Standings.{hanging_on};
-ghost use Rattle.kc_c.specs.Waits.{Hears, Leaves, MayHang, StepsOn, number_of_state};
+ghost use Rattle.kc_c.specs.Waits.{HangingHears, HangingLeaves, ClientMayHang, StepsOn, number_of_state};
 
 use crate::answers::{FREE, GOING, HUNG, LEAVING, NOT_NOW, QUIET, SIGNALLED};
 use crate::client::Client;
@@ -14,8 +14,8 @@ use std::mem::replace;
 impl Client {
     /// Begins a hang on what the last try read: its steps are still to be made.
     pub(crate) fn hang(&mut self) -> u32
-        ensures refused { ¬ MayHang self.old → (result ≡ NOT_NOW) × (self.new ≡ self.old) }
-        ensures hangs { MayHang self.old → (result ≡ GOING) × (self.new.standing ≡ hanging_on self.old.footprint self.old.standing) }
+        ensures refused { ¬ ClientMayHang self.old → (result ≡ NOT_NOW) × (self.new ≡ self.old) }
+        ensures hangs { ClientMayHang self.old → (result ≡ GOING) × (self.new.standing ≡ hanging_on self.old.footprint self.old.standing) }
         ensures footprint { self.new.footprint ≡ self.old.footprint }
     {
         let Client {
@@ -64,7 +64,7 @@ impl Client {
 
     /// Whether the caller's signal stands, by one load.
     pub(crate) fn signalled(&mut self) -> u32
-        ensures hears { Hears self.old.standing result self.new.standing }
+        ensures hears { HangingHears self.old.standing result self.new.standing }
         ensures footprint { self.new.footprint ≡ self.old.footprint }
         ensures refused { result ≡ NOT_NOW → self.new ≡ self.old }
     {
@@ -85,7 +85,7 @@ impl Client {
 
     /// Hangs no longer, from the next steps on.
     pub(crate) fn leave(&mut self) -> u32
-        ensures leaves { Leaves self.old.standing result self.new.standing }
+        ensures leaves { HangingLeaves self.old.standing result self.new.standing }
         ensures footprint { self.new.footprint ≡ self.old.footprint }
         ensures refused { result ≡ NOT_NOW → self.new ≡ self.old }
     {

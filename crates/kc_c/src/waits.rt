@@ -1,9 +1,9 @@
 //! What C calls to wait, a step a call.
 
 ghost use Rattle.std.specs.Prelude.{◌≡◌};
-ghost use Rattle.kc_c.specs.Clients.{IsClosed, IsOpen};
+ghost use Rattle.kc_c.specs.Clients.{HandleIsClosed, IsOpen};
 ghost use Rattle.kc_c.specs.Standings.{hanging_on};
-ghost use Rattle.kc_c.specs.Waits.{Hears, Leaves, MayHang, StepsOn};
+ghost use Rattle.kc_c.specs.Waits.{HangingHears, HangingLeaves, ClientMayHang, StepsOn};
 
 use crate::answers::{CLOSED, GOING, NOT_NOW};
 use crate::handle::KcasCaller;
@@ -13,10 +13,10 @@ use std::alloc::Global;
 /// the last try read nothing; then nothing changes.
 #[unsafe(no_mangle)]
 pub extern "C" fn kcas_hang(alloc: Global, caller: &mut KcasCaller) -> u32
-    ensures closed { IsClosed caller.old → (result ≡ CLOSED) × (caller.new ≡ caller.old) }
+    ensures closed { HandleIsClosed caller.old → (result ≡ CLOSED) × (caller.new ≡ caller.old) }
     ensures stays { IsOpen caller.old → IsOpen caller.new }
-    ensures refused { IsOpen caller.old → ¬ MayHang caller.old.value → (result ≡ NOT_NOW) × (caller.new.value ≡ caller.old.value) }
-    ensures hangs { IsOpen caller.old → MayHang caller.old.value → (result ≡ GOING) × (caller.new.value.standing ≡ hanging_on caller.old.value.footprint caller.old.value.standing) }
+    ensures refused { IsOpen caller.old → ¬ ClientMayHang caller.old.value → (result ≡ NOT_NOW) × (caller.new.value ≡ caller.old.value) }
+    ensures hangs { IsOpen caller.old → ClientMayHang caller.old.value → (result ≡ GOING) × (caller.new.value.standing ≡ hanging_on caller.old.value.footprint caller.old.value.standing) }
     ensures footprint { IsOpen caller.old → caller.new.value.footprint ≡ caller.old.value.footprint }
 {
     if !caller.is_open() {
@@ -33,7 +33,7 @@ pub extern "C" fn kcas_hang(alloc: Global, caller: &mut KcasCaller) -> u32
 /// NOT_NOW for one that doesn't hang; then nothing changes. It signals nobody.
 #[unsafe(no_mangle)]
 pub extern "C" fn kcas_hang_step(alloc: Global, caller: &mut KcasCaller) -> u32
-    ensures closed { IsClosed caller.old → (result ≡ CLOSED) × (caller.new ≡ caller.old) }
+    ensures closed { HandleIsClosed caller.old → (result ≡ CLOSED) × (caller.new ≡ caller.old) }
     ensures stays { IsOpen caller.old → IsOpen caller.new }
     ensures steps { IsOpen caller.old → StepsOn caller.old.value.standing result caller.new.value.standing }
     ensures refused { IsOpen caller.old → result ≡ NOT_NOW → caller.new.value ≡ caller.old.value }
@@ -52,9 +52,9 @@ pub extern "C" fn kcas_hang_step(alloc: Global, caller: &mut KcasCaller) -> u32
 /// nothing changes.
 #[unsafe(no_mangle)]
 pub extern "C" fn kcas_signalled(alloc: Global, caller: &mut KcasCaller) -> u32
-    ensures closed { IsClosed caller.old → (result ≡ CLOSED) × (caller.new ≡ caller.old) }
+    ensures closed { HandleIsClosed caller.old → (result ≡ CLOSED) × (caller.new ≡ caller.old) }
     ensures stays { IsOpen caller.old → IsOpen caller.new }
-    ensures hears { IsOpen caller.old → Hears caller.old.value.standing result caller.new.value.standing }
+    ensures hears { IsOpen caller.old → HangingHears caller.old.value.standing result caller.new.value.standing }
     ensures refused { IsOpen caller.old → result ≡ NOT_NOW → caller.new.value ≡ caller.old.value }
     ensures footprint { IsOpen caller.old → caller.new.value.footprint ≡ caller.old.value.footprint }
 {
@@ -71,9 +71,9 @@ pub extern "C" fn kcas_signalled(alloc: Global, caller: &mut KcasCaller) -> u32
 /// hangs not yet; then nothing changes.
 #[unsafe(no_mangle)]
 pub extern "C" fn kcas_leave(alloc: Global, caller: &mut KcasCaller) -> u32
-    ensures closed { IsClosed caller.old → (result ≡ CLOSED) × (caller.new ≡ caller.old) }
+    ensures closed { HandleIsClosed caller.old → (result ≡ CLOSED) × (caller.new ≡ caller.old) }
     ensures stays { IsOpen caller.old → IsOpen caller.new }
-    ensures leaves { IsOpen caller.old → Leaves caller.old.value.standing result caller.new.value.standing }
+    ensures leaves { IsOpen caller.old → HangingLeaves caller.old.value.standing result caller.new.value.standing }
     ensures refused { IsOpen caller.old → result ≡ NOT_NOW → caller.new.value ≡ caller.old.value }
     ensures footprint { IsOpen caller.old → caller.new.value.footprint ≡ caller.old.value.footprint }
 {

@@ -5,7 +5,7 @@ use Rattle.kc_xt.proofs.Times.{times-here, times-append, has_here, has_rest, has
 use Rattle.kc_xt.specs.Times.{times}
 use Rattle.kc_model.specs.declared.reply.Reply.TheVariants as reply
 use Rattle.kc_cache.specs.Content.{keys, index_of, without_last}
-use Rattle.kc_dllist.specs.Content.{Listed, numbers, payload_of, without, last_reply}
+use Rattle.kc_dllist.specs.Content.{Listed, node_numbers, payload_of, without_node, last_reply}
 use Rattle.kc_hash.proofs.FiniteMaps.{with_pair-comm, value_at-with, value_at-other, without-with, length-with}
 use Rattle.kc_hash.specs.Content.{with_pair, without_key, value_at}
 
@@ -50,13 +50,13 @@ index_length (x ∷ xs) h = length-with (index_of xs) x.payload x.node (index_no
 pub record Entry (v : ℕ → ℕ) (xs : List Listed) (key : ℕ) : Type 0 where
   pub node : ℕ
   pub indexed : value_at (index_of xs) key ≡ Some node
-  pub listed : 0 < times node (numbers xs)
+  pub listed : 0 < times node (node_numbers xs)
   pub payload : payload_of node xs ≡ key
   pub held : value_at (pairs_by v xs) key ≡ Some (v node)
-  pub rest : without_key (pairs_by v xs) key ≡ pairs_by v (without node xs)
-  pub again : with_pair (index_of (without node xs)) key node ≡ index_of xs
-  pub times : (k : ℕ) → times k (key ∷ keys (without node xs)) ≡ times k (keys xs)
-  pub length : suc (length (without node xs)) ≡ length xs
+  pub rest : without_key (pairs_by v xs) key ≡ pairs_by v (without_node node xs)
+  pub again : with_pair (index_of (without_node node xs)) key node ≡ index_of xs
+  pub times : (k : ℕ) → times k (key ∷ keys (without_node node xs)) ≡ times k (keys xs)
+  pub length : suc (length (without_node node xs)) ≡ length xs
 
 -- it is the first one's
 first_entry : (v : ℕ → ℕ) (x : Listed) (xs : List Listed) (key : ℕ) → x.payload ≡ key → Entry v (x ∷ xs) key
@@ -67,7 +67,7 @@ first_entry v x xs key e =
     record {
       node = x.node;
       indexed = subst (λ k. value_at (index_of (x ∷ xs)) k ≡ Some x.node) e (value_at-with (index_of xs) x.payload x.node);
-      listed = has_here x.node (numbers xs);
+      listed = has_here x.node (node_numbers xs);
       payload = rw same e;
       held = rw here refl;
       rest = rw (here, same) refl;
@@ -77,55 +77,55 @@ first_entry v x xs key e =
     }
 
 -- it is one behind the first
-later_entry : (v : ℕ → ℕ) (x : Listed) (xs : List Listed) (key : ℕ) → x.payload ≢ key → times x.node (numbers xs) ≡ 0 → Entry v xs key → Entry v (x ∷ xs) key
+later_entry : (v : ℕ → ℕ) (x : Listed) (xs : List Listed) (key : ℕ) → x.payload ≢ key → times x.node (node_numbers xs) ≡ 0 → Entry v xs key → Entry v (x ∷ xs) key
 later_entry v x xs key ne out r =
-    let differs : x.node ≢ r.node = λ e. (let l = r.listed in let z = ap (λ j. times j (numbers xs)) e in omega (arith, l, z, out)) in
+    let differs : x.node ≢ r.node = λ e. (let l = r.listed in let z = ap (λ j. times j (node_numbers xs)) e in omega (arith, l, z, out)) in
     let other : (x.node == r.node) ≡ false = ne_eqb x.node r.node differs in
     let miss : (x.payload == key) ≡ false = ne_eqb x.payload key ne in
     record {
       node = r.node;
       indexed = value_at-other (index_of xs) x.payload x.node key ne ∙ r.indexed;
-      listed = has_rest x.node r.node (numbers xs) r.listed;
+      listed = has_rest x.node r.node (node_numbers xs) r.listed;
       payload = rw other r.payload;
       held = rw miss r.held;
       rest = rw (miss, other) (ap (λ ps. (x.payload, v x.node) ∷ ps) r.rest);
-      again = rw other (with_pair-comm (index_of (without r.node xs)) x.payload x.node key r.node ne ∙ ap (λ ps. with_pair ps x.payload x.node) r.again);
+      again = rw other (with_pair-comm (index_of (without_node r.node xs)) x.payload x.node key r.node ne ∙ ap (λ ps. with_pair ps x.payload x.node) r.again);
       times = rw other (λ k. swapped k);
       length = rw other (ap suc r.length);
     }
   where
-    swapped : (k : ℕ) → times k (key ∷ x.payload ∷ keys (without r.node xs)) ≡ times k (x.payload ∷ keys xs)
+    swapped : (k : ℕ) → times k (key ∷ x.payload ∷ keys (without_node r.node xs)) ≡ times k (x.payload ∷ keys xs)
     swapped k =
-        let a = times-append k (key ∷ []) (x.payload ∷ keys (without r.node xs)) in
-        let b = times-append k (x.payload ∷ []) (keys (without r.node xs)) in
-        let c = times-append k (key ∷ []) (keys (without r.node xs)) in
+        let a = times-append k (key ∷ []) (x.payload ∷ keys (without_node r.node xs)) in
+        let b = times-append k (x.payload ∷ []) (keys (without_node r.node xs)) in
+        let c = times-append k (key ∷ []) (keys (without_node r.node xs)) in
         let d = times-append k (x.payload ∷ []) (keys xs) in
         let e = r.times k in
         omega (arith, a, b, c, d, e)
 
-pub entry : (v : ℕ → ℕ) (xs : List Listed) (key : ℕ) → Differ (numbers xs) → 0 < times key (keys xs) → Entry v xs key
+pub entry : (v : ℕ → ℕ) (xs : List Listed) (key : ℕ) → Differ (node_numbers xs) → 0 < times key (keys xs) → Entry v xs key
 entry v [] key n h = absurd (omega (arith, h))
-entry v (x ∷ xs) key n h = by_test (entry v xs key (differ_rest x.node (numbers xs) n)) (x.payload == key) refl
+entry v (x ∷ xs) key n h = by_test (entry v xs key (differ_rest x.node (node_numbers xs) n)) (x.payload == key) refl
   where
     by_test : (0 < times key (keys xs) → Entry v xs key) → (t : Bool) → (x.payload == key) ≡ t → Entry v (x ∷ xs) key
     by_test rest true e = first_entry v x xs key (eqb-true x.payload key e)
-    by_test rest false e = let ne = eqb-false x.payload key e in later_entry v x xs key ne (differ_head x.node (numbers xs) n) (rest (has_later x.payload key (keys xs) ne h))
+    by_test rest false e = let ne = eqb-false x.payload key e in later_entry v x xs key ne (differ_head x.node (node_numbers xs) n) (rest (has_later x.payload key (keys xs) ne h))
 
 -- a key that was taken out is not there
-pub entry_gone : (v : ℕ → ℕ) (xs : List Listed) (key : ℕ) (r : Entry v xs key) → Differ (keys xs) → times key (keys (without r.node xs)) ≡ 0
+pub entry_gone : (v : ℕ → ℕ) (xs : List Listed) (key : ℕ) (r : Entry v xs key) → Differ (keys xs) → times key (keys (without_node r.node xs)) ≡ 0
 entry_gone v xs key r h =
-    let a = times-here key key (keys (without r.node xs)) refl in
+    let a = times-here key key (keys (without_node r.node xs)) refl in
     let b = r.times key in
     let o = h key in
     omega (arith, a, b, o)
 
 -- and the map is that of the others
-pub entry_out : (v : ℕ → ℕ) (xs : List Listed) (key : ℕ) (r : Entry v xs key) → Differ (keys xs) → without_key (index_of xs) key ≡ index_of (without r.node xs)
-entry_out v xs key r h = ap (λ ps. without_key ps key) (sym r.again) ∙ without-with (index_of (without r.node xs)) key r.node (index_none (without r.node xs) key (entry_gone v xs key r h))
+pub entry_out : (v : ℕ → ℕ) (xs : List Listed) (key : ℕ) (r : Entry v xs key) → Differ (keys xs) → without_key (index_of xs) key ≡ index_of (without_node r.node xs)
+entry_out v xs key r h = ap (λ ps. without_key ps key) (sym r.again) ∙ without-with (index_of (without_node r.node xs)) key r.node (index_none (without_node r.node xs) key (entry_gone v xs key r h))
 
-pub entry_differ : (v : ℕ → ℕ) (xs : List Listed) (key : ℕ) (r : Entry v xs key) → Differ (keys xs) → Differ (keys (without r.node xs))
+pub entry_differ : (v : ℕ → ℕ) (xs : List Listed) (key : ℕ) (r : Entry v xs key) → Differ (keys xs) → Differ (keys (without_node r.node xs))
 entry_differ v xs key r h k =
-    let a = times-append k (key ∷ []) (keys (without r.node xs)) in
+    let a = times-append k (key ∷ []) (keys (without_node r.node xs)) in
     let b = r.times k in
     let o = h k in
     omega (arith, a, b, o)

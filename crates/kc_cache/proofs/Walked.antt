@@ -3,7 +3,7 @@ use Rattle.std.proofs.Common.{◌≡◌, ℕ, List, [], ◌∷◌, Some, sym, ap
 use Rattle.std.specs.List.{All}
 use Rattle.std.proofs.lemmas.List.Elements.{All-head}
 use Rattle.kc_cache.specs.Content.{pairs_of}
-use Rattle.kc_cache.specs.Meaning.{value_cell}
+use Rattle.kc_cache.specs.Meaning.{cache_value_cell}
 use Rattle.kc_cache.specs.declared.cache.Cache.{Cache}
 use Rattle.kc_dllist.specs.Content.{Listed, first_listed}
 use Rattle.kc_dllist.specs.Meaning.{IsNode}
@@ -18,8 +18,8 @@ pub first_node : (d : Dllist) (xs : List Listed) (i k : ℕ) → Some (i, k) ≡
 first_node d [] i k e a = absurd (cc)
 first_node d (x ∷ xs) i k e a = let f = (parts (i, k) (x.node, x.payload) e).0 in subst (IsNode d) (sym f) (All-head (λ (x : Listed). IsNode d x.node) x xs a)
 
-pub first_is : (c : Cache) (m : ℕ → ℕ) (xs : List Listed) (i k v : ℕ) → Some (i, k) ≡ first_listed xs → v ≡ m (value_cell c i) → Some (k, v) ≡ first_pair (pairs_of c m xs)
+pub first_is : (c : Cache) (m : ℕ → ℕ) (xs : List Listed) (i k v : ℕ) → Some (i, k) ≡ first_listed xs → v ≡ m (cache_value_cell c i) → Some (k, v) ≡ first_pair (pairs_of c m xs)
 first_is c m [] i k v e h = absurd (cc)
 first_is c m (x ∷ xs) i k v e h =
     let p = parts (i, k) (x.node, x.payload) e in
-    ap₂ (λ a b. Some (a, b)) p.1 (h ∙ ap (λ j. m (value_cell c j)) p.0)
+    ap₂ (λ a b. Some (a, b)) p.1 (h ∙ ap (λ j. m (cache_value_cell c j)) p.0)

@@ -28,15 +28,15 @@ abbrev pub space_cell : Cache → ℕ
 space_cell c = c.base.0
 
 -- the value of a node, which has a number from 1 to the capacity
-abbrev pub value_cell : Cache → ℕ → ℕ
-value_cell c i = c.base.0 + 5 + c.buckets + 6 * c.cap + i
+abbrev pub cache_value_cell : Cache → ℕ → ℕ
+cache_value_cell c i = c.base.0 + 5 + c.buckets + 6 * c.cap + i
 
 abbrev pub cache_cells : Cache → ℕ
 cache_cells c = 6 + c.buckets + 7 * c.cap
 
 -- a number above its cells
-abbrev pub cells_end : Cache → ℕ
-cells_end c = c.base.0 + 6 + c.buckets + 7 * c.cap
+abbrev pub cache_cells_end : Cache → ℕ
+cache_cells_end c = c.base.0 + 6 + c.buckets + 7 * c.cap
 
 -- what each cell opens with: all places are free, the table and the list open as they do, and values are 0
 abbrev pub cache_opening : Cache → ℕ → ℕ
@@ -49,8 +49,8 @@ cache_opening c i =
 -- ---- by cells
 
 -- a number of free places above the capacity counts as the capacity
-abbrev pub counted : Cache → ℕ → ℕ
-counted c n = min n c.cap
+abbrev pub cache_counted : Cache → ℕ → ℕ
+cache_counted c n = min n c.cap
 
 -- the number that a reply of the table or of the list has
 abbrev pub number_in : Reply → Option ℕ
@@ -77,11 +77,11 @@ with_number (Some n) none f = f n
 
 -- the reply is a node's value
 abbrev pub value_program : Cache → ℕ → (Reply → Program) → Program
-value_program c i k = read (value_cell c i) (λ v. k (reply.Value v))
+value_program c i k = read (cache_value_cell c i) (λ v. k (reply.Value v))
 
 -- a node gets a value
 abbrev pub write_program : Cache → ℕ → ℕ → (Reply → Program) → Program
-write_program c i value k = write (value_cell c i) value (k reply.Unit)
+write_program c i value k = write (cache_value_cell c i) value (k reply.Unit)
 
 -- the node that was found becomes the most recent one, and its value is the reply
 abbrev pub got_program : Cache → Reply → (Reply → Program) → Program
@@ -124,48 +124,48 @@ abbrev pub replace_program : Cache → ℕ → ℕ → (Reply → Program) → P
 replace_program c key value k = dllist_program (order_of c) list.Last (λ r. oldest_program c key value r k)
 
 -- a new pair takes a free place; where there is none, the operation waits or replaces a pair
-abbrev pub add_program : Cache → Bool → ℕ → ℕ → (Reply → Program) → Program
-add_program c waits key value k = read (space_cell c) (λ s.
-    cond (counted c s == 0)
+abbrev pub cache_add_program : Cache → Bool → ℕ → ℕ → (Reply → Program) → Program
+cache_add_program c waits key value k = read (space_cell c) (λ s.
+    cond (cache_counted c s == 0)
     (cond waits retries (replace_program c key value k))
-    (write (space_cell c) (counted c s - 1) (enter_program c key value k)))
+    (write (space_cell c) (cache_counted c s - 1) (enter_program c key value k)))
 
 -- a key that was found is renewed, and another one is added
-abbrev pub placed_program : Cache → Bool → ℕ → ℕ → Reply → (Reply → Program) → Program
-placed_program c waits key value r k = with_number (number_in r) (add_program c waits key value k) (λ n. renew_program c (node_in (order_of c) n) value k)
+abbrev pub cache_placed_program : Cache → Bool → ℕ → ℕ → Reply → (Reply → Program) → Program
+cache_placed_program c waits key value r k = with_number (number_in r) (cache_add_program c waits key value k) (λ n. renew_program c (node_in (order_of c) n) value k)
 
-abbrev pub put_program : Cache → Bool → ℕ → ℕ → (Reply → Program) → Program
-put_program c waits key value k = hash_program (table_of c) (table.Find key) (λ r. placed_program c waits key value r k)
+abbrev pub cache_put_program : Cache → Bool → ℕ → ℕ → (Reply → Program) → Program
+cache_put_program c waits key value k = hash_program (table_of c) (table.Find key) (λ r. cache_placed_program c waits key value r k)
 
 -- a place is free, and a node's value is the reply
 abbrev pub freed_program : Cache → ℕ → (Reply → Program) → Program
-freed_program c i k = read (space_cell c) (λ s. write (space_cell c) (counted c s + 1) (value_program c i k))
+freed_program c i k = read (space_cell c) (λ s. write (space_cell c) (cache_counted c s + 1) (value_program c i k))
 
 -- the node that left the table leaves the list, and its place is free
 abbrev pub taken_program : Cache → Reply → (Reply → Program) → Program
 taken_program c r k = with_node (node_named c (number_in r)) (k reply.Empty) (λ i.
     dllist_program (order_of c) (list.Remove i) (λ _. freed_program c i k))
 
-abbrev pub del_program : Cache → ℕ → (Reply → Program) → Program
-del_program c key k = hash_program (table_of c) (table.Del key) (λ r. taken_program c r k)
+abbrev pub cache_del_program : Cache → ℕ → (Reply → Program) → Program
+cache_del_program c key k = hash_program (table_of c) (table.Del key) (λ r. taken_program c r k)
 
-abbrev pub length_program : Cache → (Reply → Program) → Program
-length_program c k = read (space_cell c) (λ s. k (reply.Value (c.cap - counted c s)))
+abbrev pub cache_length_program : Cache → (Reply → Program) → Program
+cache_length_program c k = read (space_cell c) (λ s. k (reply.Value (c.cap - cache_counted c s)))
 
 -- what an operation does, and what comes behind its reply
 abbrev pub cache_program : Cache → CacheAct → (Reply → Program) → Program
-cache_program c (act.CPut key value) = put_program c false key value
-cache_program c (act.CPutWait key value) = put_program c true key value
+cache_program c (act.CPut key value) = cache_put_program c false key value
+cache_program c (act.CPutWait key value) = cache_put_program c true key value
 cache_program c (act.CGet key) = get_program c key
-cache_program c (act.CDel key) = del_program c key
-cache_program c act.Len = length_program c
+cache_program c (act.CDel key) = cache_del_program c key
+cache_program c act.Len = cache_length_program c
 
 abbrev pub cache_meaning : CacheOp → Meaning
 cache_meaning o = meaning (cache_program o.cache o.act replies)
 
 -- the number behind its last location
 abbrev pub cache_end : CacheOp → ℕ
-cache_end o = cells_end o.cache
+cache_end o = cache_cells_end o.cache
 
 -- no location of it is below this one
 abbrev pub cache_begin : CacheOp → ℕ

@@ -3,7 +3,7 @@
 
 ghost use Rattle.std.specs.Prelude.{◌≡◌, ◌<◌, ◌≤◌};
 ghost use Rattle.kc_xt.specs.Steps.{Does};
-ghost use Rattle.kc_cache.specs.Meaning.{get_program, renew_program, enter_program, replace_program, add_program, put_program, del_program, length_program, node_named, number_in, is_unit, cells_end};
+ghost use Rattle.kc_cache.specs.Meaning.{get_program, renew_program, enter_program, replace_program, cache_add_program, cache_put_program, cache_del_program, cache_length_program, node_named, number_in, is_unit, cache_cells_end};
 ghost use Rattle.kc_dllist.specs.Meaning.{node_in};
 
 use crate::cache::Cache;
@@ -11,7 +11,7 @@ use kc_model::{Loc, Reply};
 use kc_xt::{Peek, Stop, Xt};
 
 pub(crate) fn get<P: Peek>(cache: Cache, key: u32, xt: &mut Xt<P>) -> Result<Reply, Stop>
-    requires { cells_end cache ≤ P.locations xt.old.peek }
+    requires { cache_cells_end cache ≤ P.locations xt.old.peek }
     ensures goes { Does P.peek_gives (get_program cache key) xt.old result xt.new }
     ensures size { P.locations xt.new.peek ≡ P.locations xt.old.peek }
 {
@@ -33,8 +33,8 @@ pub(crate) fn put<P: Peek>(
     value: u32,
     xt: &mut Xt<P>,
 ) -> Result<Reply, Stop>
-    requires { cells_end cache ≤ P.locations xt.old.peek }
-    ensures goes { Does P.peek_gives (put_program cache waits key value) xt.old result xt.new }
+    requires { cache_cells_end cache ≤ P.locations xt.old.peek }
+    ensures goes { Does P.peek_gives (cache_put_program cache waits key value) xt.old result xt.new }
     ensures size { P.locations xt.new.peek ≡ P.locations xt.old.peek }
 {
     let found = cache.table().find(key, xt)?;
@@ -45,8 +45,8 @@ pub(crate) fn put<P: Peek>(
 }
 
 pub(crate) fn del<P: Peek>(cache: Cache, key: u32, xt: &mut Xt<P>) -> Result<Reply, Stop>
-    requires { cells_end cache ≤ P.locations xt.old.peek }
-    ensures goes { Does P.peek_gives (del_program cache key) xt.old result xt.new }
+    requires { cache_cells_end cache ≤ P.locations xt.old.peek }
+    ensures goes { Does P.peek_gives (cache_del_program cache key) xt.old result xt.new }
     ensures size { P.locations xt.new.peek ≡ P.locations xt.old.peek }
 {
     let gone = cache.table().del(key, xt)?;
@@ -63,8 +63,8 @@ pub(crate) fn del<P: Peek>(cache: Cache, key: u32, xt: &mut Xt<P>) -> Result<Rep
 }
 
 pub(crate) fn length<P: Peek>(cache: Cache, xt: &mut Xt<P>) -> Result<Reply, Stop>
-    requires within { cells_end cache ≤ P.locations xt.old.peek }
-    ensures goes { Does P.peek_gives (length_program cache) xt.old result xt.new }
+    requires within { cache_cells_end cache ≤ P.locations xt.old.peek }
+    ensures goes { Does P.peek_gives (cache_length_program cache) xt.old result xt.new }
     ensures size { P.locations xt.new.peek ≡ P.locations xt.old.peek }
 {
     let held = xt.get(cache.base)?;
@@ -75,7 +75,7 @@ pub(crate) fn length<P: Peek>(cache: Cache, xt: &mut Xt<P>) -> Result<Reply, Sto
 // The pair of this node, if it is one, becomes the most recent one and gets the value.
 fn renew<P: Peek>(cache: Cache, known: u32, value: u32, xt: &mut Xt<P>) -> Result<Reply, Stop>
     requires node { known ≤ cache.cap }
-    requires within { cells_end cache ≤ P.locations xt.old.peek }
+    requires within { cache_cells_end cache ≤ P.locations xt.old.peek }
     ensures goes { Does P.peek_gives (renew_program cache known value) xt.old result xt.new }
     ensures size { P.locations xt.new.peek ≡ P.locations xt.old.peek }
 {
@@ -95,8 +95,8 @@ fn add<P: Peek>(
     value: u32,
     xt: &mut Xt<P>,
 ) -> Result<Reply, Stop>
-    requires { cells_end cache ≤ P.locations xt.old.peek }
-    ensures goes { Does P.peek_gives (add_program cache waits key value) xt.old result xt.new }
+    requires { cache_cells_end cache ≤ P.locations xt.old.peek }
+    ensures goes { Does P.peek_gives (cache_add_program cache waits key value) xt.old result xt.new }
     ensures size { P.locations xt.new.peek ≡ P.locations xt.old.peek }
 {
     let held = xt.get(cache.base)?;
@@ -113,7 +113,7 @@ fn add<P: Peek>(
 
 // The least recent pair is dropped, and then the new one is entered.
 fn replace<P: Peek>(cache: Cache, key: u32, value: u32, xt: &mut Xt<P>) -> Result<Reply, Stop>
-    requires { cells_end cache ≤ P.locations xt.old.peek }
+    requires { cache_cells_end cache ≤ P.locations xt.old.peek }
     ensures goes { Does P.peek_gives (replace_program cache key value) xt.old result xt.new }
     ensures size { P.locations xt.new.peek ≡ P.locations xt.old.peek }
 {
@@ -133,7 +133,7 @@ fn replace<P: Peek>(cache: Cache, key: u32, value: u32, xt: &mut Xt<P>) -> Resul
 
 // A free node gets the pair, as the most recent one.
 fn enter<P: Peek>(cache: Cache, key: u32, value: u32, xt: &mut Xt<P>) -> Result<Reply, Stop>
-    requires { cells_end cache ≤ P.locations xt.old.peek }
+    requires { cache_cells_end cache ≤ P.locations xt.old.peek }
     ensures goes { Does P.peek_gives (enter_program cache key value) xt.old result xt.new }
     ensures size { P.locations xt.new.peek ≡ P.locations xt.old.peek }
 {

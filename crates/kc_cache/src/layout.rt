@@ -1,7 +1,7 @@
 //! What a cache is made of.
 
 ghost use Rattle.std.specs.Prelude.{◌≡◌, ◌+◌, ◌*◌, ◌<◌, ◌≤◌};
-ghost use Rattle.kc_cache.specs.Meaning.{cache_cells, cells_end, cache_opening, table_of, order_of, value_cell};
+ghost use Rattle.kc_cache.specs.Meaning.{cache_cells, cache_cells_end, cache_opening, table_of, order_of, cache_value_cell};
 
 use crate::cache::Cache;
 use kc_dllist::Dllist;
@@ -87,8 +87,8 @@ impl Cache {
     // The cell of a node's value.
     pub(crate) fn value_loc(self, node: u32) -> Loc
         requires { node ≤ self.cap }
-        ensures is { result.0 ≡ value_cell self node }
-        ensures within { result.0 < cells_end self }
+        ensures is { result.0 ≡ cache_value_cell self node }
+        ensures within { result.0 < cache_cells_end self }
     {
         Loc(self.base.0 + 5 + self.buckets + 6 * self.cap + node)
     }

@@ -4,7 +4,7 @@ use Rattle.std.specs.Prelude.{if◌then◌else◌}
 use Rattle.std.proofs.lemmas.Bool.{cond-true}
 use Rattle.kc_calls.specs.Alone.{first_value, has_one_location, reply_on}
 use Rattle.kc_calls.specs.Silent.{silent, silenced}
-use Rattle.kc_calls.specs.Told.{told, told_item, places_from}
+use Rattle.kc_calls.specs.Told.{replies_told, told_item, places_from}
 use Rattle.kc_calls.specs.declared.reply.KcasReply.{KcasReply}
 use Rattle.kc_loc.proofs.LocLaw.{loc_stays}
 use Rattle.kc_loc.proofs.Values.{loc_has_value}
@@ -28,9 +28,9 @@ use Rattle.kc_xt.specs.Program.{replies}
 
 -- ---- the one reply
 
-pub told_one : (xs : List Item) (x : Item) (y : KcasReply) → xs ≡ x ∷ [] → y ≡ told_item x → told xs 1 ≡ y ∷ []
+pub told_one : (xs : List Item) (x : Item) (y : KcasReply) → xs ≡ x ∷ [] → y ≡ told_item x → replies_told xs 1 ≡ y ∷ []
 unfolding places_from
-told_one xs x y e f = ap (λ zs. told zs 1) e ∙ ap (λ z. z ∷ []) (sym f)
+told_one xs x y e f = ap (λ zs. replies_told zs 1) e ∙ ap (λ z. z ∷ []) (sym f)
 
 -- ---- how it ended
 

@@ -3,7 +3,7 @@ use Rattle.std.proofs.Common.{◌≡◌, ℕ, zero, suc, length, get_or, ◌==�
 use Rattle.std.specs.Option.{option_map, option_and_then}
 use Rattle.kc_calls.specs.Meaning.{call_end, program_said, said_end, end_said, FitIfSaid, SaidIsFit, CallsAreFit, calls_end}
 use Rattle.kc_calls.specs.Operations.{AreOperations, IsOperation}
-use Rattle.kc_calls.specs.Said.{said, done_to, acted, loc_said, stack_said, queue_said, table_said, grow_said, cache_said, mvar_said, promise_said, accumulator_said}
+use Rattle.kc_calls.specs.Said.{call_said, done_to, acted, loc_said, stack_said, queue_said, table_said, grow_said, cache_said, mvar_said, promise_said, accumulator_said}
 use Rattle.kc_calls.specs.Structures.{structure_of}
 use Rattle.kc_calls.specs.declared.call.Call.{Call}
 use Rattle.kc_calls.specs.declared.call.Call.TheVariants as call
@@ -52,8 +52,8 @@ act_on : (x : Option Op) → OnObject x → CallOnObject (option_map call.Act x)
 act_on (Some p) h = h
 act_on None h = tt
 
-on_object : (o : KcasOp) → CallOnObject (said o)
-unfolding said done_to
+on_object : (o : KcasOp) → CallOnObject (call_said o)
+unfolding call_said done_to
 on_object o = by (o.verb == SAY) (structure_of o.on)
   where
     by : (t : Bool) (s : Option Object) → CallOnObject (cond t (Some (call.Say o.a)) (option_and_then (λ s. done_to s o.verb o.a o.b) s))
@@ -82,7 +82,7 @@ call_fit None on c e le = absurd cc
 
 module _ (locations : ℕ) where
   said_fit : locations ≤ MOST_LOCATIONS → (o : KcasOp) → IsOperation locations o → SaidIsFit o
-  said_fit most o (mark, c, e, le) = call_fit (said o) (on_object o) c e (omega (arith, le, most))
+  said_fit most o (mark, c, e, le) = call_fit (call_said o) (on_object o) c e (omega (arith, le, most))
 
   said_within : (o : KcasOp) → IsOperation locations o → said_end o ≤ locations
   said_within o (mark, c, e, le) = let f : said_end o ≡ call_end c = ap end_said e in omega (arith, f, le)
@@ -103,7 +103,7 @@ one_said (Some (call.Act p)) = stays_one (first_of p) (behind_of p) (op_program 
 one_said None = means_one (program_said None) tt
 
 pub are_fit : (locations : ℕ) → locations ≤ MOST_LOCATIONS → (os : List KcasOp) → AreOperations locations os → CallsAreFit os
-are_fit locations most os h = record { few = h.few; each = each_fit locations most os h.each; single = each_of (λ o. one_said (said o)) os }
+are_fit locations most os h = record { few = h.few; each = each_fit locations most os h.each; single = each_of (λ o. one_said (call_said o)) os }
 
 -- what holds of each holds of the one at a place
 pub each_there : {X : Type 0} (P : X → Type 0) (xs : List X) (i : ℕ) (d : X) → i < length xs → Each P xs → P (get_or xs i d)

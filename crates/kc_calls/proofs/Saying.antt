@@ -3,9 +3,9 @@ use Rattle.std.proofs.Common.{◌≡◌, ◌==◌, ◌≤◌, ◌+◌, Bool, tru
 use Rattle.std.proofs.lemmas.Bool.{cond-true}
 use Rattle.std.specs.Option.{option_map, option_and_then}
 use Rattle.kc_calls.proofs.Placing.{laid_is, stack_laid, queue_laid, table_laid, grow_laid, cache_laid, mvar_laid, promise_laid, accumulator_laid}
-use Rattle.kc_calls.specs.Said.{said, done_to, fun_said, rel_said, loc_said}
+use Rattle.kc_calls.specs.Said.{call_said, done_to, fun_said, rel_said, loc_said}
 use Rattle.kc_calls.specs.Structures.{structure_of, location_at}
-use Rattle.kc_calls.specs.Words.{loc_words, object_words, fun_number, fun_with, rel_number, loc_op_words, stack_words, queue_words, table_words, grow_words, cache_words, mvar_words, promise_words, accumulator_words, op_words, IsSayable}
+use Rattle.kc_calls.specs.Words.{call_loc_words, object_words, fun_number, fun_with, rel_number, loc_op_words, call_stack_words, call_queue_words, call_table_words, grow_words, call_cache_words, call_mvar_words, call_promise_words, accumulator_words, op_words, IsSayable}
 use Rattle.kc_calls.specs.declared.call.Call.TheVariants as call
 use Rattle.kc_calls.specs.declared.kinds.TheConstants.{LOCATION}
 use Rattle.kc_calls.specs.declared.operation.KcasOp.{KcasOp}
@@ -50,11 +50,11 @@ use Rattle.kc_stack.specs.declared.operation.StackAct.TheVariants as stack
 use Rattle.kc_stack.specs.declared.stack.Stack.{Stack}
 
 abbrev Says : KcasOp → Op → Type 0
-Says o p = said o ≡ Some (call.Act p)
+Says o p = call_said o ≡ Some (call.Act p)
 
 -- what is done to the structure that is said
-by_structure : (o : KcasOp) (s : Object) → structure_of o.on ≡ Some s → (o.verb == SAY) ≡ false → said o ≡ done_to s o.verb o.a o.b
-unfolding said
+by_structure : (o : KcasOp) (s : Object) → structure_of o.on ≡ Some s → (o.verb == SAY) ≡ false → call_said o ≡ done_to s o.verb o.a o.b
+unfolding call_said
 by_structure o s e f =
     ap (λ t. cond t (Some (call.Say o.a)) (option_and_then (λ s. done_to s o.verb o.a o.b) (structure_of o.on))) f
     ∙ ap (option_and_then (λ s. done_to s o.verb o.a o.b)) e
@@ -77,7 +77,7 @@ rel_says rel.Ge = refl
 
 -- ---- locations
 
-at_loc : (l : Loc) → l.0 + 1 ≤ MOST_LOCATIONS → structure_of (loc_words l) ≡ Some (object.Loc l 0)
+at_loc : (l : Loc) → l.0 + 1 ≤ MOST_LOCATIONS → structure_of (call_loc_words l) ≡ Some (object.Loc l 0)
 unfolding structure_of location_at
 at_loc l room = laid_is (l.0 + 1) _ room
 
@@ -112,28 +112,28 @@ loc_says (loc.Check l r n) h = by_structure (loc_op_words (loc.Check l r n)) (ob
 
 -- ---- structures
 
-stack_says : (s : Stack) (act : StackAct) → IsSized (object.Stack s) → Says (stack_words (object_words (object.Stack s)) act) (op.Stack (record { stack = s; act = act }))
+stack_says : (s : Stack) (act : StackAct) → IsSized (object.Stack s) → Says (call_stack_words (object_words (object.Stack s)) act) (op.Stack (record { stack = s; act = act }))
 unfolding done_to structure_of
-stack_says s (stack.Push v) h = by_structure (stack_words (object_words (object.Stack s)) (stack.Push v)) (object.Stack s) (stack_laid s _ _ refl refl h.0 h.1) refl
-stack_says s stack.Pop h = by_structure (stack_words (object_words (object.Stack s)) stack.Pop) (object.Stack s) (stack_laid s _ _ refl refl h.0 h.1) refl
-stack_says s stack.PopWait h = by_structure (stack_words (object_words (object.Stack s)) stack.PopWait) (object.Stack s) (stack_laid s _ _ refl refl h.0 h.1) refl
-stack_says s stack.Top h = by_structure (stack_words (object_words (object.Stack s)) stack.Top) (object.Stack s) (stack_laid s _ _ refl refl h.0 h.1) refl
-stack_says s stack.Len h = by_structure (stack_words (object_words (object.Stack s)) stack.Len) (object.Stack s) (stack_laid s _ _ refl refl h.0 h.1) refl
+stack_says s (stack.Push v) h = by_structure (call_stack_words (object_words (object.Stack s)) (stack.Push v)) (object.Stack s) (stack_laid s _ _ refl refl h.0 h.1) refl
+stack_says s stack.Pop h = by_structure (call_stack_words (object_words (object.Stack s)) stack.Pop) (object.Stack s) (stack_laid s _ _ refl refl h.0 h.1) refl
+stack_says s stack.PopWait h = by_structure (call_stack_words (object_words (object.Stack s)) stack.PopWait) (object.Stack s) (stack_laid s _ _ refl refl h.0 h.1) refl
+stack_says s stack.Top h = by_structure (call_stack_words (object_words (object.Stack s)) stack.Top) (object.Stack s) (stack_laid s _ _ refl refl h.0 h.1) refl
+stack_says s stack.Len h = by_structure (call_stack_words (object_words (object.Stack s)) stack.Len) (object.Stack s) (stack_laid s _ _ refl refl h.0 h.1) refl
 
-queue_says : (q : Queue) (act : QueueAct) → IsSized (object.Queue q) → Says (queue_words (object_words (object.Queue q)) act) (op.Queue (record { queue = q; act = act }))
+queue_says : (q : Queue) (act : QueueAct) → IsSized (object.Queue q) → Says (call_queue_words (object_words (object.Queue q)) act) (op.Queue (record { queue = q; act = act }))
 unfolding done_to structure_of
-queue_says q (queue.Enq v) h = by_structure (queue_words (object_words (object.Queue q)) (queue.Enq v)) (object.Queue q) (queue_laid q _ _ refl refl h.1) refl
-queue_says q queue.Deq h = by_structure (queue_words (object_words (object.Queue q)) queue.Deq) (object.Queue q) (queue_laid q _ _ refl refl h.1) refl
-queue_says q queue.DeqWait h = by_structure (queue_words (object_words (object.Queue q)) queue.DeqWait) (object.Queue q) (queue_laid q _ _ refl refl h.1) refl
-queue_says q queue.Front h = by_structure (queue_words (object_words (object.Queue q)) queue.Front) (object.Queue q) (queue_laid q _ _ refl refl h.1) refl
-queue_says q queue.Len h = by_structure (queue_words (object_words (object.Queue q)) queue.Len) (object.Queue q) (queue_laid q _ _ refl refl h.1) refl
+queue_says q (queue.Enq v) h = by_structure (call_queue_words (object_words (object.Queue q)) (queue.Enq v)) (object.Queue q) (queue_laid q _ _ refl refl h.1) refl
+queue_says q queue.Deq h = by_structure (call_queue_words (object_words (object.Queue q)) queue.Deq) (object.Queue q) (queue_laid q _ _ refl refl h.1) refl
+queue_says q queue.DeqWait h = by_structure (call_queue_words (object_words (object.Queue q)) queue.DeqWait) (object.Queue q) (queue_laid q _ _ refl refl h.1) refl
+queue_says q queue.Front h = by_structure (call_queue_words (object_words (object.Queue q)) queue.Front) (object.Queue q) (queue_laid q _ _ refl refl h.1) refl
+queue_says q queue.Len h = by_structure (call_queue_words (object_words (object.Queue q)) queue.Len) (object.Queue q) (queue_laid q _ _ refl refl h.1) refl
 
-table_says : (t : Hash) (act : HashAct) → IsSized (object.Hash t) → Says (table_words (object_words (object.Hash t)) act) (op.Hash (record { hash = t; act = act }))
+table_says : (t : Hash) (act : HashAct) → IsSized (object.Hash t) → Says (call_table_words (object_words (object.Hash t)) act) (op.Hash (record { hash = t; act = act }))
 unfolding done_to structure_of
-table_says t (table.Put k v) h = by_structure (table_words (object_words (object.Hash t)) (table.Put k v)) (object.Hash t) (table_laid t _ _ _ refl refl refl h.1 h.3) refl
-table_says t (table.Find k) h = by_structure (table_words (object_words (object.Hash t)) (table.Find k)) (object.Hash t) (table_laid t _ _ _ refl refl refl h.1 h.3) refl
-table_says t (table.Del k) h = by_structure (table_words (object_words (object.Hash t)) (table.Del k)) (object.Hash t) (table_laid t _ _ _ refl refl refl h.1 h.3) refl
-table_says t table.Len h = by_structure (table_words (object_words (object.Hash t)) table.Len) (object.Hash t) (table_laid t _ _ _ refl refl refl h.1 h.3) refl
+table_says t (table.Put k v) h = by_structure (call_table_words (object_words (object.Hash t)) (table.Put k v)) (object.Hash t) (table_laid t _ _ _ refl refl refl h.1 h.3) refl
+table_says t (table.Find k) h = by_structure (call_table_words (object_words (object.Hash t)) (table.Find k)) (object.Hash t) (table_laid t _ _ _ refl refl refl h.1 h.3) refl
+table_says t (table.Del k) h = by_structure (call_table_words (object_words (object.Hash t)) (table.Del k)) (object.Hash t) (table_laid t _ _ _ refl refl refl h.1 h.3) refl
+table_says t table.Len h = by_structure (call_table_words (object_words (object.Hash t)) table.Len) (object.Hash t) (table_laid t _ _ _ refl refl refl h.1 h.3) refl
 
 grow_says : (g : Grow) (act : GrowAct) → IsSized (object.Grow g) → Says (grow_words (object_words (object.Grow g)) act) (op.Grow (record { grow = g; act = act }))
 unfolding done_to structure_of
@@ -142,25 +142,25 @@ grow_says g (grow.Find k) h = by_structure (grow_words (object_words (object.Gro
 grow_says g (grow.Del k) h = by_structure (grow_words (object_words (object.Grow g)) (grow.Del k)) (object.Grow g) (grow_laid g _ _ refl refl h.1) refl
 grow_says g grow.Len h = by_structure (grow_words (object_words (object.Grow g)) grow.Len) (object.Grow g) (grow_laid g _ _ refl refl h.1) refl
 
-cache_says : (x : Cache) (act : CacheAct) → IsSized (object.Cache x) → Says (cache_words (object_words (object.Cache x)) act) (op.Cache (record { cache = x; act = act }))
+cache_says : (x : Cache) (act : CacheAct) → IsSized (object.Cache x) → Says (call_cache_words (object_words (object.Cache x)) act) (op.Cache (record { cache = x; act = act }))
 unfolding done_to structure_of
-cache_says x (cache.CPut k v) h = by_structure (cache_words (object_words (object.Cache x)) (cache.CPut k v)) (object.Cache x) (cache_laid x _ _ _ refl refl refl h.1 h.3) refl
-cache_says x (cache.CPutWait k v) h = by_structure (cache_words (object_words (object.Cache x)) (cache.CPutWait k v)) (object.Cache x) (cache_laid x _ _ _ refl refl refl h.1 h.3) refl
-cache_says x (cache.CGet k) h = by_structure (cache_words (object_words (object.Cache x)) (cache.CGet k)) (object.Cache x) (cache_laid x _ _ _ refl refl refl h.1 h.3) refl
-cache_says x (cache.CDel k) h = by_structure (cache_words (object_words (object.Cache x)) (cache.CDel k)) (object.Cache x) (cache_laid x _ _ _ refl refl refl h.1 h.3) refl
-cache_says x cache.Len h = by_structure (cache_words (object_words (object.Cache x)) cache.Len) (object.Cache x) (cache_laid x _ _ _ refl refl refl h.1 h.3) refl
+cache_says x (cache.CPut k v) h = by_structure (call_cache_words (object_words (object.Cache x)) (cache.CPut k v)) (object.Cache x) (cache_laid x _ _ _ refl refl refl h.1 h.3) refl
+cache_says x (cache.CPutWait k v) h = by_structure (call_cache_words (object_words (object.Cache x)) (cache.CPutWait k v)) (object.Cache x) (cache_laid x _ _ _ refl refl refl h.1 h.3) refl
+cache_says x (cache.CGet k) h = by_structure (call_cache_words (object_words (object.Cache x)) (cache.CGet k)) (object.Cache x) (cache_laid x _ _ _ refl refl refl h.1 h.3) refl
+cache_says x (cache.CDel k) h = by_structure (call_cache_words (object_words (object.Cache x)) (cache.CDel k)) (object.Cache x) (cache_laid x _ _ _ refl refl refl h.1 h.3) refl
+cache_says x cache.Len h = by_structure (call_cache_words (object_words (object.Cache x)) cache.Len) (object.Cache x) (cache_laid x _ _ _ refl refl refl h.1 h.3) refl
 
-mvar_says : (x : Mvar) (act : MvarAct) → IsSized (object.Mvar x) → Says (mvar_words (object_words (object.Mvar x)) act) (op.Mvar (record { mvar = x; act = act }))
+mvar_says : (x : Mvar) (act : MvarAct) → IsSized (object.Mvar x) → Says (call_mvar_words (object_words (object.Mvar x)) act) (op.Mvar (record { mvar = x; act = act }))
 unfolding done_to structure_of
-mvar_says x (mvar.Put v) h = by_structure (mvar_words (object_words (object.Mvar x)) (mvar.Put v)) (object.Mvar x) (mvar_laid x _ refl) refl
-mvar_says x mvar.Take h = by_structure (mvar_words (object_words (object.Mvar x)) mvar.Take) (object.Mvar x) (mvar_laid x _ refl) refl
-mvar_says x mvar.Peek h = by_structure (mvar_words (object_words (object.Mvar x)) mvar.Peek) (object.Mvar x) (mvar_laid x _ refl) refl
+mvar_says x (mvar.Put v) h = by_structure (call_mvar_words (object_words (object.Mvar x)) (mvar.Put v)) (object.Mvar x) (mvar_laid x _ refl) refl
+mvar_says x mvar.Take h = by_structure (call_mvar_words (object_words (object.Mvar x)) mvar.Take) (object.Mvar x) (mvar_laid x _ refl) refl
+mvar_says x mvar.Peek h = by_structure (call_mvar_words (object_words (object.Mvar x)) mvar.Peek) (object.Mvar x) (mvar_laid x _ refl) refl
 
-promise_says : (x : Promise) (act : PromiseAct) → IsSized (object.Promise x) → Says (promise_words (object_words (object.Promise x)) act) (op.Promise (record { promise = x; act = act }))
+promise_says : (x : Promise) (act : PromiseAct) → IsSized (object.Promise x) → Says (call_promise_words (object_words (object.Promise x)) act) (op.Promise (record { promise = x; act = act }))
 unfolding done_to structure_of
-promise_says x (promise.Resolve v) h = by_structure (promise_words (object_words (object.Promise x)) (promise.Resolve v)) (object.Promise x) (promise_laid x _ refl) refl
-promise_says x promise.Await h = by_structure (promise_words (object_words (object.Promise x)) promise.Await) (object.Promise x) (promise_laid x _ refl) refl
-promise_says x promise.IsResolved h = by_structure (promise_words (object_words (object.Promise x)) promise.IsResolved) (object.Promise x) (promise_laid x _ refl) refl
+promise_says x (promise.Resolve v) h = by_structure (call_promise_words (object_words (object.Promise x)) (promise.Resolve v)) (object.Promise x) (promise_laid x _ refl) refl
+promise_says x promise.Await h = by_structure (call_promise_words (object_words (object.Promise x)) promise.Await) (object.Promise x) (promise_laid x _ refl) refl
+promise_says x promise.IsResolved h = by_structure (call_promise_words (object_words (object.Promise x)) promise.IsResolved) (object.Promise x) (promise_laid x _ refl) refl
 
 accumulator_says : (x : Accumulator) (act : AccAct) → IsSized (object.Acc x) → Says (accumulator_words (object_words (object.Acc x)) act) (op.Acc (record { acc = x; act = act }))
 unfolding done_to structure_of

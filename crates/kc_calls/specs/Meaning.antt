@@ -1,7 +1,7 @@
 -- What C's operations mean, as one transaction.
 use Rattle.std.specs.Prelude.{ℕ, zero, suc, ◌==◌, ⊤, List, [], ◌∷◌, if◌then◌else◌, length, take, drop, Option, Some, None}
 use Rattle.kc_calls.specs.Cut.{cut}
-use Rattle.kc_calls.specs.Said.{said}
+use Rattle.kc_calls.specs.Said.{call_said}
 use Rattle.kc_calls.specs.declared.call.Call.{Call}
 use Rattle.kc_calls.specs.declared.call.Call.TheVariants as call
 use Rattle.kc_calls.specs.declared.operation.KcasOp.{KcasOp}
@@ -47,13 +47,13 @@ FitIfSaid (Some c) = CallIsFit c
 FitIfSaid None = ⊥
 
 abbrev pub said_meaning : KcasOp → Meaning
-said_meaning o = meaning (program_said (said o))
+said_meaning o = meaning (program_said (call_said o))
 
 abbrev pub said_end : KcasOp → ℕ
-said_end o = end_said (said o)
+said_end o = end_said (call_said o)
 
 abbrev pub SaidIsFit : KcasOp → Type 0
-SaidIsFit o = FitIfSaid (said o)
+SaidIsFit o = FitIfSaid (call_said o)
 
 -- ---- all of them
 

@@ -2,7 +2,7 @@
 use Rattle.std.specs.Prelude.{◌≡◌, ℕ, ◌<◌, ◌≤◌, List, [], ◌∷◌, length, Some}
 use Rattle.kc_calls.specs.Cut.{ors}
 use Rattle.kc_calls.specs.Meaning.{call_end}
-use Rattle.kc_calls.specs.Said.{said}
+use Rattle.kc_calls.specs.Said.{call_said}
 use Rattle.kc_calls.specs.declared.call.Call.{Call}
 use Rattle.kc_calls.specs.declared.calls.TheConstants.{MOST_CALLS, MOST_ALTERNATIVES}
 use Rattle.kc_calls.specs.declared.operation.KcasOp.{KcasOp}
@@ -11,7 +11,7 @@ use Rattle.kc_term.specs.Fit.{Each}
 
 -- it says an operation on cells below this number, and has a mark that there is
 abbrev pub IsOperation : ℕ → KcasOp → Type 0
-IsOperation locations o = (o.mark ≤ OR) × (c : Call) × (said o ≡ Some c) × (call_end c ≤ locations)
+IsOperation locations o = (o.mark ≤ OR) × (c : Call) × (call_said o ≡ Some c) × (call_end c ≤ locations)
 
 -- the first one's mark
 abbrev pub BeginsWith : ℕ → List KcasOp → Type 0

@@ -140,5 +140,5 @@ unfoldable pub done_to : Object → ℕ → ℕ → ℕ → Option Call
 done_to s verb a b = option_map call.Act (acted s verb a b)
 
 -- the operation, if it is one
-unfoldable pub said : KcasOp → Option Call
-said o = cond (o.verb == SAY) (Some (call.Say o.a)) (option_and_then (λ s. done_to s o.verb o.a o.b) (structure_of o.on))
+unfoldable pub call_said : KcasOp → Option Call
+call_said o = cond (o.verb == SAY) (Some (call.Say o.a)) (option_and_then (λ s. done_to s o.verb o.a o.b) (structure_of o.on))

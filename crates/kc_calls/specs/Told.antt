@@ -14,9 +14,9 @@ told_item item.Empty = record { kind = EMPTY; value = 0 }
 told_item item.Full = record { kind = FULL; value = 0 }
 
 -- an item, or nothing where there is none
-abbrev pub told_of : Option Item → KcasReply
-told_of (Some x) = told_item x
-told_of None = record { kind = NONE; value = 0 }
+abbrev pub told_or_none : Option Item → KcasReply
+told_or_none (Some x) = told_item x
+told_or_none None = record { kind = NONE; value = 0 }
 
 -- what stands at each of so many places, from this one on
 unfoldable pub places_from : {X : Type 0} → (ℕ → X) → ℕ → ℕ → List X
@@ -24,5 +24,5 @@ places_from f i zero = []
 places_from f i (suc n) = f i ∷ places_from f (i + 1) n
 
 -- so many replies: at each place the item there, and nothing behind the last item
-abbrev pub told : List Item → ℕ → List KcasReply
-told items n = places_from (λ i. told_of (slice_get items i)) 0 n
+abbrev pub replies_told : List Item → ℕ → List KcasReply
+replies_told items n = places_from (λ i. told_or_none (slice_get items i)) 0 n

@@ -39,11 +39,11 @@ use Rattle.kc_stack.specs.declared.operation.StackAct.TheVariants as stack
 abbrev pub structure : (kind base capacity buckets : ℕ) → KcasObject
 structure kind base capacity buckets = record { kind = kind; base = base; capacity = capacity; buckets = buckets }
 
-abbrev pub loc_words : Loc → KcasObject
-loc_words l = structure LOCATION l.0 0 0
+abbrev pub call_loc_words : Loc → KcasObject
+call_loc_words l = structure LOCATION l.0 0 0
 
 abbrev pub object_words : Object → KcasObject
-object_words (object.Loc at value) = loc_words at
+object_words (object.Loc at value) = call_loc_words at
 object_words (object.Stack s) = structure STACK s.base.0 s.cap 0
 object_words (object.Queue q) = structure QUEUE q.base.0 q.cap 0
 object_words (object.Hash h) = structure TABLE h.base.0 h.cap h.buckets
@@ -55,11 +55,11 @@ object_words (object.Acc x) = structure ACCUMULATOR x.base.0 x.cells 0
 
 -- ---- operations
 
-abbrev pub words : KcasObject → (verb a b : ℕ) → KcasOp
-words on verb a b = record { verb = verb; mark = NEXT; on = on; a = a; b = b }
+abbrev pub call_words : KcasObject → (verb a b : ℕ) → KcasOp
+call_words on verb a b = record { verb = verb; mark = NEXT; on = on; a = a; b = b }
 
 abbrev pub say_words : ℕ → KcasOp
-say_words n = words (structure 0 0 0 0) SAY n 0
+say_words n = call_words (structure 0 0 0 0) SAY n 0
 
 abbrev pub fun_number : Fun → ℕ
 fun_number (fun.Add n) = FUN_ADD
@@ -87,75 +87,75 @@ rel_number rel.Gt = GT
 rel_number rel.Ge = GE
 
 abbrev pub loc_op_words : LocOp → KcasOp
-loc_op_words (loc.Get l) = words (loc_words l) GET 0 0
-loc_op_words (loc.Set l v) = words (loc_words l) SET v 0
-loc_op_words (loc.Exchange l v) = words (loc_words l) EXCHANGE v 0
-loc_op_words (loc.Swap l m) = words (loc_words l) SWAP m.0 0
-loc_op_words (loc.Cas l before after) = words (loc_words l) CAS before after
-loc_op_words (loc.FetchAdd l n) = words (loc_words l) ADD n 0
-loc_op_words (loc.Incr l) = words (loc_words l) INCR 0 0
-loc_op_words (loc.Decr l) = words (loc_words l) DECR 0 0
-loc_op_words (loc.Update l f) = words (loc_words l) UPDATE (fun_number f) (fun_with f)
-loc_op_words (loc.Modify l f) = words (loc_words l) MODIFY (fun_number f) (fun_with f)
-loc_op_words (loc.Check l r n) = words (loc_words l) CHECK (rel_number r) n
+loc_op_words (loc.Get l) = call_words (call_loc_words l) GET 0 0
+loc_op_words (loc.Set l v) = call_words (call_loc_words l) SET v 0
+loc_op_words (loc.Exchange l v) = call_words (call_loc_words l) EXCHANGE v 0
+loc_op_words (loc.Swap l m) = call_words (call_loc_words l) SWAP m.0 0
+loc_op_words (loc.Cas l before after) = call_words (call_loc_words l) CAS before after
+loc_op_words (loc.FetchAdd l n) = call_words (call_loc_words l) ADD n 0
+loc_op_words (loc.Incr l) = call_words (call_loc_words l) INCR 0 0
+loc_op_words (loc.Decr l) = call_words (call_loc_words l) DECR 0 0
+loc_op_words (loc.Update l f) = call_words (call_loc_words l) UPDATE (fun_number f) (fun_with f)
+loc_op_words (loc.Modify l f) = call_words (call_loc_words l) MODIFY (fun_number f) (fun_with f)
+loc_op_words (loc.Check l r n) = call_words (call_loc_words l) CHECK (rel_number r) n
 
-abbrev pub stack_words : KcasObject → StackAct → KcasOp
-stack_words on (stack.Push v) = words on PUSH v 0
-stack_words on stack.Pop = words on POP 0 0
-stack_words on stack.PopWait = words on POP_WAIT 0 0
-stack_words on stack.Top = words on TOP 0 0
-stack_words on stack.Len = words on LEN 0 0
+abbrev pub call_stack_words : KcasObject → StackAct → KcasOp
+call_stack_words on (stack.Push v) = call_words on PUSH v 0
+call_stack_words on stack.Pop = call_words on POP 0 0
+call_stack_words on stack.PopWait = call_words on POP_WAIT 0 0
+call_stack_words on stack.Top = call_words on TOP 0 0
+call_stack_words on stack.Len = call_words on LEN 0 0
 
-abbrev pub queue_words : KcasObject → QueueAct → KcasOp
-queue_words on (queue.Enq v) = words on ENQ v 0
-queue_words on queue.Deq = words on DEQ 0 0
-queue_words on queue.DeqWait = words on DEQ_WAIT 0 0
-queue_words on queue.Front = words on FRONT 0 0
-queue_words on queue.Len = words on LEN 0 0
+abbrev pub call_queue_words : KcasObject → QueueAct → KcasOp
+call_queue_words on (queue.Enq v) = call_words on ENQ v 0
+call_queue_words on queue.Deq = call_words on DEQ 0 0
+call_queue_words on queue.DeqWait = call_words on DEQ_WAIT 0 0
+call_queue_words on queue.Front = call_words on FRONT 0 0
+call_queue_words on queue.Len = call_words on LEN 0 0
 
-abbrev pub table_words : KcasObject → HashAct → KcasOp
-table_words on (table.Put k v) = words on PUT k v
-table_words on (table.Find k) = words on FIND k 0
-table_words on (table.Del k) = words on DEL k 0
-table_words on table.Len = words on LEN 0 0
+abbrev pub call_table_words : KcasObject → HashAct → KcasOp
+call_table_words on (table.Put k v) = call_words on PUT k v
+call_table_words on (table.Find k) = call_words on FIND k 0
+call_table_words on (table.Del k) = call_words on DEL k 0
+call_table_words on table.Len = call_words on LEN 0 0
 
 abbrev pub grow_words : KcasObject → GrowAct → KcasOp
-grow_words on (grow.Put k v) = words on PUT k v
-grow_words on (grow.Find k) = words on FIND k 0
-grow_words on (grow.Del k) = words on DEL k 0
-grow_words on grow.Len = words on LEN 0 0
+grow_words on (grow.Put k v) = call_words on PUT k v
+grow_words on (grow.Find k) = call_words on FIND k 0
+grow_words on (grow.Del k) = call_words on DEL k 0
+grow_words on grow.Len = call_words on LEN 0 0
 
-abbrev pub cache_words : KcasObject → CacheAct → KcasOp
-cache_words on (cache.CPut k v) = words on CPUT k v
-cache_words on (cache.CPutWait k v) = words on CPUT_WAIT k v
-cache_words on (cache.CGet k) = words on CGET k 0
-cache_words on (cache.CDel k) = words on CDEL k 0
-cache_words on cache.Len = words on LEN 0 0
+abbrev pub call_cache_words : KcasObject → CacheAct → KcasOp
+call_cache_words on (cache.CPut k v) = call_words on CPUT k v
+call_cache_words on (cache.CPutWait k v) = call_words on CPUT_WAIT k v
+call_cache_words on (cache.CGet k) = call_words on CGET k 0
+call_cache_words on (cache.CDel k) = call_words on CDEL k 0
+call_cache_words on cache.Len = call_words on LEN 0 0
 
-abbrev pub mvar_words : KcasObject → MvarAct → KcasOp
-mvar_words on (mvar.Put v) = words on MPUT v 0
-mvar_words on mvar.Take = words on MTAKE 0 0
-mvar_words on mvar.Peek = words on MPEEK 0 0
+abbrev pub call_mvar_words : KcasObject → MvarAct → KcasOp
+call_mvar_words on (mvar.Put v) = call_words on MPUT v 0
+call_mvar_words on mvar.Take = call_words on MTAKE 0 0
+call_mvar_words on mvar.Peek = call_words on MPEEK 0 0
 
-abbrev pub promise_words : KcasObject → PromiseAct → KcasOp
-promise_words on (promise.Resolve v) = words on RESOLVE v 0
-promise_words on promise.Await = words on AWAIT 0 0
-promise_words on promise.IsResolved = words on RESOLVED 0 0
+abbrev pub call_promise_words : KcasObject → PromiseAct → KcasOp
+call_promise_words on (promise.Resolve v) = call_words on RESOLVE v 0
+call_promise_words on promise.Await = call_words on AWAIT 0 0
+call_promise_words on promise.IsResolved = call_words on RESOLVED 0 0
 
 abbrev pub accumulator_words : KcasObject → AccAct → KcasOp
-accumulator_words on (acc.Bump cell v) = words on BUMP v cell
-accumulator_words on acc.Total = words on TOTAL 0 0
+accumulator_words on (acc.Bump cell v) = call_words on BUMP v cell
+accumulator_words on acc.Total = call_words on TOTAL 0 0
 
 -- of a cancel there are none
 abbrev pub op_words : Op → KcasOp
 op_words (op.Loc o) = loc_op_words o
-op_words (op.Stack o) = stack_words (object_words (object.Stack o.stack)) o.act
-op_words (op.Queue o) = queue_words (object_words (object.Queue o.queue)) o.act
-op_words (op.Hash o) = table_words (object_words (object.Hash o.hash)) o.act
+op_words (op.Stack o) = call_stack_words (object_words (object.Stack o.stack)) o.act
+op_words (op.Queue o) = call_queue_words (object_words (object.Queue o.queue)) o.act
+op_words (op.Hash o) = call_table_words (object_words (object.Hash o.hash)) o.act
 op_words (op.Grow o) = grow_words (object_words (object.Grow o.grow)) o.act
-op_words (op.Cache o) = cache_words (object_words (object.Cache o.cache)) o.act
-op_words (op.Mvar o) = mvar_words (object_words (object.Mvar o.mvar)) o.act
-op_words (op.Promise o) = promise_words (object_words (object.Promise o.promise)) o.act
+op_words (op.Cache o) = call_cache_words (object_words (object.Cache o.cache)) o.act
+op_words (op.Mvar o) = call_mvar_words (object_words (object.Mvar o.mvar)) o.act
+op_words (op.Promise o) = call_promise_words (object_words (object.Promise o.promise)) o.act
 op_words (op.Acc o) = accumulator_words (object_words (object.Acc o.acc)) o.act
 op_words (op.Cancel c) = say_words 0
 

@@ -6,7 +6,7 @@
 ghost use Rattle.std.specs.Prelude.{◌≡◌, ◌≤◌, ◌∷◌, [], true, IfSome};
 ghost use Rattle.kc_calls.specs.Alone.{IsAlone, first_value, has_one_location, reply_on};
 ghost use Rattle.kc_calls.specs.Silent.{silent};
-ghost use Rattle.kc_calls.specs.Told.{told};
+ghost use Rattle.kc_calls.specs.Told.{replies_told};
 ghost use Rattle.kc_loc.specs.Meaning.{LocIsFit, loc_end, loc_last, loc_meaning};
 ghost use Rattle.kc_model.specs.declared.plain_store.TheConstants.{MOST_LOCATIONS};
 ghost use Rattle.kc_term.specs.Meaning.{items_of};
@@ -93,7 +93,7 @@ fn only_location(operation: LocOp) -> Option<Loc>
 /// What C is told of an operation that was done, by what it read.
 #[inline(always)]
 pub fn told_alone(operation: LocOp, footprint: &Footprint) -> KcasReply
-    ensures { told (items_of (reply_on operation (first_value footprint.now.reads.items))) 1 ≡ result ∷ [] }
+    ensures { replies_told (items_of (reply_on operation (first_value footprint.now.reads.items))) 1 ≡ result ∷ [] }
 {
     told(item_on(operation, first_value(footprint.reads.as_slice())))
 }

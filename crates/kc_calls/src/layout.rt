@@ -1,7 +1,7 @@
 //! Structures by their kinds, where they have a size that there is and all cells in a store.
 
 ghost use Rattle.std.specs.Prelude.{◌≡◌, ◌≤◌, ◌+◌, ◌&&◌, nat_le};
-ghost use Rattle.kc_calls.specs.Structures.{location_at, stack_at, queue_at, table_at, grow_at, cache_at, mvar_at, promise_at, accumulator_at};
+ghost use Rattle.kc_calls.specs.Structures.{location_at, call_stack_at, call_queue_at, call_table_at, call_grow_at, call_cache_at, call_mvar_at, call_promise_at, accumulator_at};
 ghost use Rattle.kc_model.specs.declared.plain_store.TheConstants.{MOST_LOCATIONS};
 
 use kc_cache::Cache;
@@ -43,7 +43,7 @@ pub(crate) fn location_at(base: u32) -> Option<Object>
 }
 
 pub(crate) fn stack_at(base: u32, capacity: u32) -> Option<Object>
-    ensures { result ≡ stack_at base capacity }
+    ensures { result ≡ call_stack_at base capacity }
 {
     if !is_size(capacity, MOST_ITEMS) {
         return None;
@@ -55,7 +55,7 @@ pub(crate) fn stack_at(base: u32, capacity: u32) -> Option<Object>
 }
 
 pub(crate) fn queue_at(base: u32, capacity: u32) -> Option<Object>
-    ensures { result ≡ queue_at base capacity }
+    ensures { result ≡ call_queue_at base capacity }
 {
     if !is_size(capacity, MOST_ITEMS) {
         return None;
@@ -67,7 +67,7 @@ pub(crate) fn queue_at(base: u32, capacity: u32) -> Option<Object>
 }
 
 pub(crate) fn table_at(base: u32, buckets: u32, capacity: u32) -> Option<Object>
-    ensures { result ≡ table_at base buckets capacity }
+    ensures { result ≡ call_table_at base buckets capacity }
 {
     if !is_size(buckets, MOST_BUCKETS) {
         return None;
@@ -82,7 +82,7 @@ pub(crate) fn table_at(base: u32, buckets: u32, capacity: u32) -> Option<Object>
 }
 
 pub(crate) fn grow_at(base: u32, capacity: u32) -> Option<Object>
-    ensures { result ≡ grow_at base capacity }
+    ensures { result ≡ call_grow_at base capacity }
 {
     if !is_size(capacity, MOST_ITEMS) {
         return None;
@@ -94,7 +94,7 @@ pub(crate) fn grow_at(base: u32, capacity: u32) -> Option<Object>
 }
 
 pub(crate) fn cache_at(base: u32, buckets: u32, capacity: u32) -> Option<Object>
-    ensures { result ≡ cache_at base buckets capacity }
+    ensures { result ≡ call_cache_at base buckets capacity }
 {
     if !is_size(buckets, MOST_BUCKETS) {
         return None;
@@ -109,7 +109,7 @@ pub(crate) fn cache_at(base: u32, buckets: u32, capacity: u32) -> Option<Object>
 }
 
 pub(crate) fn mvar_at(base: u32) -> Option<Object>
-    ensures { result ≡ mvar_at base }
+    ensures { result ≡ call_mvar_at base }
 {
     if !has_room(base, 2) {
         return None;
@@ -118,7 +118,7 @@ pub(crate) fn mvar_at(base: u32) -> Option<Object>
 }
 
 pub(crate) fn promise_at(base: u32) -> Option<Object>
-    ensures { result ≡ promise_at base }
+    ensures { result ≡ call_promise_at base }
 {
     if !has_room(base, 2) {
         return None;

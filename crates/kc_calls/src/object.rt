@@ -1,7 +1,7 @@
 //! Where a structure lies, as C says it.
 
 ghost use Rattle.std.specs.Prelude.{◌≡◌, ◌<◌};
-ghost use Rattle.kc_calls.specs.Structures.{structure_of, cells_of, Opens};
+ghost use Rattle.kc_calls.specs.Structures.{structure_of, cells_of, OpensStructure};
 ghost use Rattle.kc_script_bundle.specs.Script.{cells as object_cells};
 ghost use Rattle.kc_script_bundle.specs.State.{opening_value};
 
@@ -62,7 +62,7 @@ pub fn cells(object: KcasObject) -> u32
 /// Writes what the cells of a structure open with to the first of these values, where there is such a structure and
 /// room for its cells. Else it answers false, and the values stay as they were.
 pub fn opening(object: KcasObject, values: &mut [u32]) -> bool
-    ensures { Opens (structure_of object) values.old result values.new }
+    ensures { OpensStructure (structure_of object) values.old result values.new }
 {
     let Some(structure) = object.structure() else {
         return false;

@@ -1,7 +1,7 @@
 //! What C is told.
 
 ghost use Rattle.std.specs.Prelude.{◌≡◌, length, slice_get};
-ghost use Rattle.kc_calls.specs.Told.{told, told_item, told_of};
+ghost use Rattle.kc_calls.specs.Told.{replies_told, told_item, told_or_none};
 ghost use Rattle.kc_term.specs.Meaning.{items_of};
 
 use kc_model::{Item, Reply};
@@ -32,7 +32,7 @@ pub(crate) const FULL: u32 = 5;
 /// Writes what was replied: the items of the reply in their order, and nothing behind them. Of more items than there
 /// is room for the first are written.
 pub fn tell(reply: &Reply, replies: &mut [KcasReply])
-    ensures { replies.new ≡ told (items_of reply.now) (length replies.old) }
+    ensures { replies.new ≡ replies_told (items_of reply.now) (length replies.old) }
 {
     for i in 0..replies.len() {
         replies[i] = reply_at(reply, i);
@@ -40,7 +40,7 @@ pub fn tell(reply: &Reply, replies: &mut [KcasReply])
 }
 
 fn reply_at(reply: &Reply, index: usize) -> KcasReply
-    ensures { result ≡ told_of (slice_get (items_of reply.now) index) }
+    ensures { result ≡ told_or_none (slice_get (items_of reply.now) index) }
 {
     match item_at(reply, index) {
         Some(item) => told(item),

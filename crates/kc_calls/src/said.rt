@@ -1,7 +1,7 @@
 //! The operation that C says, with its structure.
 
 ghost use Rattle.std.specs.Prelude.{◌≡◌, Some, IfSome};
-ghost use Rattle.kc_calls.specs.Said.{said, done_to};
+ghost use Rattle.kc_calls.specs.Said.{call_said, done_to};
 ghost use Rattle.kc_calls.specs.declared.call.Call.TheVariants as call;
 ghost use Rattle.kc_script_bundle.specs.declared.operation.Op.TheVariants as op;
 
@@ -28,7 +28,7 @@ impl KcasOp {
     // The operation on a location that it says, if it says one. Most do, and these take few steps to read.
     #[inline(always)]
     pub(crate) fn on_location(&self) -> Option<LocOp>
-        ensures { IfSome result (λ o. said self.now ≡ Some (call.Act (op.Loc o))) }
+        ensures { IfSome result (λ o. call_said self.now ≡ Some (call.Act (op.Loc o))) }
     {
         if self.on.kind != LOCATION || !has_room(self.on.base, 1) {
             return None;
@@ -40,7 +40,7 @@ impl KcasOp {
     #[inline(always)]
     #[tactic(auto, unfolding(crate::specs::Said::said))]
     pub(crate) fn said(&self) -> Option<Call>
-        ensures { result ≡ said self.now }
+        ensures { result ≡ call_said self.now }
     {
         if self.verb == SAY {
             return Some(Call::Say(self.a));

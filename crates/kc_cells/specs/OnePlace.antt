@@ -43,15 +43,15 @@ place_program base (act.Look waits) = look_program base waits
 place_program base act.IsFull = is_full_program base
 
 -- the value that is there
-abbrev pub held : ℕ → (ℕ → ℕ) → Option ℕ
-held base m = cond (m base == 0) None (Some (m (base + 1)))
+abbrev pub value_held : ℕ → (ℕ → ℕ) → Option ℕ
+value_held base m = cond (m base == 0) None (Some (m (base + 1)))
 
 -- ---- on contents
 
 -- the cells stand for a value, or for none
-abbrev pub Holds : ℕ → Standing (Option ℕ)
-Holds base m None = m base ≡ 0
-Holds base m (Some v) = (m base ≡ 1) × (m (base + 1) ≡ v)
+abbrev pub PlaceHolds : ℕ → Standing (Option ℕ)
+PlaceHolds base m None = m base ≡ 0
+PlaceHolds base m (Some v) = (m base ≡ 1) × (m (base + 1) ≡ v)
 
 -- a value is put where there is none; where there is one it ends so
 abbrev pub filled : Outcome → ℕ → Option ℕ → Value (Option ℕ)

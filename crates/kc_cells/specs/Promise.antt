@@ -10,21 +10,21 @@ use Rattle.kc_xt.specs.Structure.{Standing, Value}
 use Rattle.kc_cells.specs.declared.promise.PromiseAct.TheVariants as act
 use Rattle.kc_cells.specs.declared.one_place.PlaceAct.{PlaceAct}
 use Rattle.kc_cells.specs.declared.one_place.PlaceAct.TheVariants as place
-use Rattle.kc_cells.specs.OnePlace.{place_cells, place_program, place_value, Holds}
+use Rattle.kc_cells.specs.OnePlace.{place_cells, place_program, place_value, PlaceHolds}
 
 -- a number above its cells
 abbrev pub promise_cells_end : Promise → ℕ
 promise_cells_end x = x.base.0 + place_cells
 
 -- what it does to the two cells
-abbrev pub promise_act : PromiseAct → PlaceAct
-promise_act (act.Resolve v) = place.Fill false v
-promise_act act.Await = place.Look true
-promise_act act.IsResolved = place.IsFull
+abbrev pub promise_place_act : PromiseAct → PlaceAct
+promise_place_act (act.Resolve v) = place.Fill false v
+promise_place_act act.Await = place.Look true
+promise_place_act act.IsResolved = place.IsFull
 
 -- what an operation does, and what comes behind its reply
 abbrev pub promise_program : Promise → PromiseAct → (Reply → Program) → Program
-promise_program x a = place_program x.base.0 (promise_act a)
+promise_program x a = place_program x.base.0 (promise_place_act a)
 
 abbrev pub promise_meaning : PromiseOp → Meaning
 promise_meaning o = meaning (promise_program o.promise o.act replies)
@@ -39,7 +39,7 @@ promise_begin o = o.promise.base.0
 
 -- the cells stand for this content
 abbrev pub PromiseStandsFor : Promise → Standing (Option ℕ)
-PromiseStandsFor x = Holds x.base.0
+PromiseStandsFor x = PlaceHolds x.base.0
 
 abbrev pub promise_value : PromiseAct → Option ℕ → Value (Option ℕ)
-promise_value a = place_value (promise_act a)
+promise_value a = place_value (promise_place_act a)

@@ -5,7 +5,7 @@ ghost use Rattle.kc_model.specs.Store.{store_of};
 ghost use Rattle.kc_xt.specs.Meaning.{values};
 ghost use Rattle.kc_cells.specs.Accumulator.{acc_cells_end, acc_opening, AccStandsFor};
 ghost use Rattle.kc_cells.specs.Mvar.{mvar_cells_end, MvarStandsFor};
-ghost use Rattle.kc_cells.specs.OnePlace.{place_cells, place_opening, held};
+ghost use Rattle.kc_cells.specs.OnePlace.{place_cells, place_opening, value_held};
 ghost use Rattle.kc_cells.specs.Promise.{promise_cells_end, PromiseStandsFor};
 
 use crate::accumulator::{Accumulator, MOST_CELLS};
@@ -48,7 +48,7 @@ impl Mvar {
     /// Its value in a store. A flag that isn't 0 says that there is one.
     pub fn value(&self, store: &PlainStore) -> Option<u32>
         requires { mvar_cells_end self.now ≤ length store.now }
-        ensures held { result ≡ held self.now.base.0 (values (store_of store.now)) }
+        ensures held { result ≡ value_held self.now.base.0 (values (store_of store.now)) }
         ensures content { (c : Option ℕ) → MvarStandsFor self.now (values (store_of store.now)) c → result ≡ c }
     {
         one_place::value(self.base, store)
@@ -89,7 +89,7 @@ impl Promise {
     /// Its value in a store. A flag that isn't 0 says that there is one.
     pub fn value(&self, store: &PlainStore) -> Option<u32>
         requires { promise_cells_end self.now ≤ length store.now }
-        ensures held { result ≡ held self.now.base.0 (values (store_of store.now)) }
+        ensures held { result ≡ value_held self.now.base.0 (values (store_of store.now)) }
         ensures content { (c : Option ℕ) → PromiseStandsFor self.now (values (store_of store.now)) c → result ≡ c }
     {
         one_place::value(self.base, store)

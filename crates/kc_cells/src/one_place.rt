@@ -4,7 +4,7 @@ ghost use Rattle.std.specs.Prelude.{◌≡◌, ◌+◌, ◌≤◌, length};
 ghost use Rattle.kc_model.specs.Store.{store_of};
 ghost use Rattle.kc_xt.specs.Meaning.{values};
 ghost use Rattle.kc_xt.specs.Steps.{Does};
-ghost use Rattle.kc_cells.specs.OnePlace.{place_cells, place_program, fill_program, look_program, take_program, is_full_program, held};
+ghost use Rattle.kc_cells.specs.OnePlace.{place_cells, place_program, fill_program, look_program, take_program, is_full_program, value_held};
 
 use kc_model::{Loc, MOST_LOCATIONS, PlainStore, Reply};
 use kc_xt::{Peek, Stop, Xt};
@@ -104,7 +104,7 @@ fn is_full<P: Peek>(base: Loc, xt: &mut Xt<P>) -> Result<Reply, Stop>
 pub(crate) fn value(base: Loc, store: &PlainStore) -> Option<u32>
     requires within { base.0 + place_cells ≤ length store.now }
     requires fits { base.0 + place_cells ≤ MOST_LOCATIONS }
-    ensures { result ≡ held base.0 (values (store_of store.now)) }
+    ensures { result ≡ value_held base.0 (values (store_of store.now)) }
 {
     let flag = store.get(base)?;
     if flag == 0 {

@@ -1,7 +1,7 @@
 -- Opened chains stand for no pairs.
 use Rattle.std.proofs.Common.{◌≡◌, ◌⊎◌, ℕ, zero, suc, ◌+◌, ◌-◌, ◌*◌, ◌/◌, ◌%◌, ◌<◌, ◌≤◌, cond, ltb, List, [], ◌∷◌, ◌++◌, length, refl, sym, ap, ◌∙◌, inl, inr, arith, eq-eqb, lt-ltb, le-ltb}
 use Rattle.std.proofs.lemmas.Bool.{cases_eq}
-use Rattle.kc_chain.specs.Content.{keys_of, nodes_of, map_of, node_opening, IsChain, StandsFor}
+use Rattle.kc_chain.specs.Content.{keys_of, nodes_of, map_of, node_opening, IsChain, ChainsStandFor}
 use Rattle.kc_chain.specs.Meaning.{count_cell, free_cell, head_cell, next_cell, IsLaid}
 use Rattle.kc_chain.specs.declared.layout.Chains.{Chains}
 use Rattle.kc_xt.proofs.Times.{times-here, times-there}
@@ -56,7 +56,7 @@ module _ (h : Chains) (m : ℕ → ℕ) (next_opens : (j : ℕ) → 1 ≤ j → 
       same_test (inl g) = le-ltb l h.cap (omega (arith, g)) ∙ sym (le-ltb (l + 1) (h.cap + 1) (omega (arith, g)))
       same_test (inr ne) = lt-ltb l h.cap (omega (arith, e, ne)) ∙ sym (lt-ltb (l + 1) (h.cap + 1) (omega (arith, e, ne)))
 
-  pub chains_open : (bucket : ℕ → ℕ) → IsLaid h → ((key : ℕ) → bucket key < h.buckets) → 1 ≤ h.cap → m (count_cell h) ≡ 0 → m (free_cell h) ≡ 1 → ((b : ℕ) → b < h.buckets → m (head_cell h b) ≡ 0) → StandsFor h bucket m []
+  pub chains_open : (bucket : ℕ → ℕ) → IsLaid h → ((key : ℕ) → bucket key < h.buckets) → 1 ≤ h.cap → m (count_cell h) ≡ 0 → m (free_cell h) ≡ 1 → ((b : ℕ) → b < h.buckets → m (head_cell h b) ≡ 0) → ChainsStandFor h bucket m []
   chains_open bucket laid home room count free heads =
       let nothing = no_nodes 0 h.buckets in
       record {

@@ -45,13 +45,13 @@ abbrev pub with_new : List (ℕ × ℕ) → ℕ × ℕ → List (ℕ × ℕ)
 with_new [] p = p ∷ []
 with_new (q ∷ qs) p = cond (nat_lt q.0 p.0) (q ∷ with_new qs p) (cond (q.0 == p.0) (q ∷ qs) (p ∷ q ∷ qs))
 
--- the first n of the pairs with this one, where its key is above `after`
+-- the first n of the pairs with this one, where its key is above `pairs_after`
 abbrev pub nearest : ℕ → Option ℕ → List (ℕ × ℕ) → ℕ × ℕ → List (ℕ × ℕ)
 nearest n after pairs p = cond (is_above after p.0) (take n (with_new pairs p)) pairs
 
 -- the pairs begin with these
-abbrev pub IsFront : List (ℕ × ℕ) → List (ℕ × ℕ) → Type 0
-IsFront front pairs = (rest : List (ℕ × ℕ)) × (pairs ≡ front ++ rest)
+abbrev pub IsFrontOfPairs : List (ℕ × ℕ) → List (ℕ × ℕ) → Type 0
+IsFrontOfPairs front pairs = (rest : List (ℕ × ℕ)) × (pairs ≡ front ++ rest)
 
 -- ---- cells that stand for a map
 
@@ -85,7 +85,7 @@ map_of h m (i ∷ is) = with_pair (map_of h m is) (m (key_cell h i)) (m (value_c
 
 -- The chains from the heads and the free chain have each node once, a node is in the chain of its key's bucket, and the keys differ.
 -- The count is the number of nodes in the chains from the heads, and the pairs are the map of these.
-pub record StandsFor (h : Chains) (bucket : ℕ → ℕ) (m : ℕ → ℕ) (pairs : List (ℕ × ℕ)) : Type 0 where
+pub record ChainsStandFor (h : Chains) (bucket : ℕ → ℕ) (m : ℕ → ℕ) (pairs : List (ℕ × ℕ)) : Type 0 where
   pub laid : IsLaid h
   pub home : (key : ℕ) → bucket key < h.buckets
   pub chains : ℕ → List ℕ
@@ -108,8 +108,8 @@ seen_from h m bucket node (suc n) = cond (node == 0)
     (node ∷ seen_from h m bucket (link_of h (m (next_cell h node))) n)
 
 -- the pairs of the nodes that a pass with a step for each bucket and node sees, whatever the cells hold
-abbrev pub shown : Chains → (ℕ → ℕ) → List (ℕ × ℕ)
-shown h m = map_of h m (seen_from h m 0 0 (h.buckets + h.cap))
+abbrev pub chain_shown : Chains → (ℕ → ℕ) → List (ℕ × ℕ)
+chain_shown h m = map_of h m (seen_from h m 0 0 (h.buckets + h.cap))
 
 -- ---- the opening
 
@@ -120,8 +120,8 @@ node_opening cap i = cond (i % 3 == 2) (cond (nat_lt (i / 3 + 1) cap) (i / 3 + 2
 -- ---- values
 
 -- a reply, and the pairs then
-abbrev pub after : Reply → List (ℕ × ℕ) → Value (List (ℕ × ℕ))
-after r pairs = comes_to (replied r) pairs
+abbrev pub pairs_after : Reply → List (ℕ × ℕ) → Value (List (ℕ × ℕ))
+pairs_after r pairs = comes_to (replied r) pairs
 
 -- the reply of what stands at a key
 abbrev pub found_reply : Option ℕ → Reply
@@ -130,5 +130,5 @@ found_reply (Some v) = reply.Value v
 
 -- Full where the key is new and there are as many as the capacity
 abbrev pub put_value : ℕ → ℕ → ℕ → List (ℕ × ℕ) → Option ℕ → Value (List (ℕ × ℕ))
-put_value cap key value pairs None = cond (length pairs == cap) (after reply.Full pairs) (after reply.Unit (with_pair pairs key value))
-put_value cap key value pairs (Some v) = after reply.Unit (with_pair pairs key value)
+put_value cap key value pairs None = cond (length pairs == cap) (pairs_after reply.Full pairs) (pairs_after reply.Unit (with_pair pairs key value))
+put_value cap key value pairs (Some v) = pairs_after reply.Unit (with_pair pairs key value)

@@ -12,8 +12,8 @@ use Rattle.kc_xt.specs.Program.{Program, read, write}
 -- ---- the cells
 
 -- a number above its cells
-abbrev pub cells_end : Chains → ℕ
-cells_end h = h.nodes + 3 * h.cap
+abbrev pub chain_cells_end : Chains → ℕ
+chain_cells_end h = h.nodes + 3 * h.cap
 
 -- the number of pairs
 abbrev pub count_cell : Chains → ℕ
@@ -45,7 +45,7 @@ pub record IsLaid (h : Chains) : Type 0 where
 -- and they are locations of a store
 pub record LieInside (h : Chains) : Type 0 where
   pub laid : IsLaid h
-  pub cells : cells_end h ≤ MOST_LOCATIONS
+  pub cells : chain_cells_end h ≤ MOST_LOCATIONS
 
 -- ---- what numbers count as
 
@@ -54,12 +54,12 @@ abbrev pub link_of : Chains → ℕ → ℕ
 link_of h n = cond (nat_le n h.cap) n 0
 
 -- a number of pairs above the capacity counts as the capacity
-abbrev pub counted : Chains → ℕ → ℕ
-counted h n = min n h.cap
+abbrev pub chain_counted : Chains → ℕ → ℕ
+chain_counted h n = min n h.cap
 
 -- the place is of a node, and of a cell of the table
-abbrev pub IsWithin : Chains → Place → Type 0
-IsWithin h p = (1 ≤ p.node) × (p.node ≤ h.cap) × (h.base.0 ≤ p.from.0) × (p.from.0 < cells_end h)
+abbrev pub PlaceIsWithin : Chains → Place → Type 0
+PlaceIsWithin h p = (1 ≤ p.node) × (p.node ≤ h.cap) × (h.base.0 ≤ p.from.0) × (p.from.0 < chain_cells_end h)
 
 -- ---- what is done
 
@@ -91,7 +91,7 @@ abbrev pub link_program : Chains → ℕ → ℕ → ℕ → ℕ → (Placed →
 link_program h key value b i k = read (next_cell h i) (λ next.
     write (free_cell h) (link_of h next) (write (key_cell h i) key (write (value_cell h i) value
     (read (head_cell h b) (λ head. write (next_cell h i) (link_of h head) (write (head_cell h b) i
-    (read (count_cell h) (λ n. write (count_cell h) (counted h n + 1) (k (placed.Added (counted h n + 1)))))))))))
+    (read (count_cell h) (λ n. write (count_cell h) (chain_counted h n + 1) (k (placed.Added (chain_counted h n + 1)))))))))))
 
 -- the first free node gets the pair, if there is one
 abbrev pub insert_program : Chains → ℕ → ℕ → ℕ → (Placed → Program) → Program
@@ -110,11 +110,11 @@ abbrev pub removed_program : Chains → (Reply → Program) → Option Place →
 removed_program h k None = k reply.Empty
 removed_program h k (Some p) = read (next_cell h p.node) (λ next. write p.from.0 (link_of h next)
     (read (free_cell h) (λ free. write (next_cell h p.node) (link_of h free) (write (free_cell h) p.node
-    (read (count_cell h) (λ n. write (count_cell h) (counted h n - 1)
+    (read (count_cell h) (λ n. write (count_cell h) (chain_counted h n - 1)
     (read (value_cell h p.node) (λ v. k (reply.Value v)))))))))
 
 abbrev pub del_program : Chains → ℕ → ℕ → (Reply → Program) → Program
 del_program h key b k = walk_program h key b (removed_program h k)
 
 abbrev pub length_program : Chains → (Reply → Program) → Program
-length_program h k = read (count_cell h) (λ n. k (reply.Value (counted h n)))
+length_program h k = read (count_cell h) (λ n. k (reply.Value (chain_counted h n)))

@@ -2,7 +2,7 @@
 
 ghost use Rattle.std.specs.Prelude.{◌≡◌, ◌<◌, ◌≤◌, ◌+◌, ◌*◌};
 ghost use Rattle.kc_xt.specs.Steps.{Does};
-ghost use Rattle.kc_chain.specs.Meaning.{put_program, insert_program, find_program, del_program, length_program, cells_end, LieInside};
+ghost use Rattle.kc_chain.specs.Meaning.{put_program, insert_program, find_program, del_program, length_program, chain_cells_end, LieInside};
 
 use crate::layout::Chains;
 use crate::walk::walk;
@@ -35,7 +35,7 @@ impl Chains {
     ) -> Result<Placed, Stop>
         requires lie { LieInside self }
         requires bucket { bucket < self.buckets }
-        requires store { cells_end self ≤ P.locations xt.old.peek }
+        requires store { chain_cells_end self ≤ P.locations xt.old.peek }
         ensures goes { Does P.peek_gives (put_program self key value bucket) xt.old result xt.new }
         ensures size { P.locations xt.new.peek ≡ P.locations xt.old.peek }
     {
@@ -54,7 +54,7 @@ impl Chains {
     pub fn find<P: Peek>(self, key: u32, bucket: u32, xt: &mut Xt<P>) -> Result<Reply, Stop>
         requires lie { LieInside self }
         requires bucket { bucket < self.buckets }
-        requires store { cells_end self ≤ P.locations xt.old.peek }
+        requires store { chain_cells_end self ≤ P.locations xt.old.peek }
         ensures goes { Does P.peek_gives (find_program self key bucket) xt.old result xt.new }
         ensures size { P.locations xt.new.peek ≡ P.locations xt.old.peek }
     {
@@ -73,7 +73,7 @@ impl Chains {
     pub fn del<P: Peek>(self, key: u32, bucket: u32, xt: &mut Xt<P>) -> Result<Reply, Stop>
         requires lie { LieInside self }
         requires bucket { bucket < self.buckets }
-        requires store { cells_end self ≤ P.locations xt.old.peek }
+        requires store { chain_cells_end self ≤ P.locations xt.old.peek }
         ensures goes { Does P.peek_gives (del_program self key bucket) xt.old result xt.new }
         ensures size { P.locations xt.new.peek ≡ P.locations xt.old.peek }
     {
@@ -100,7 +100,7 @@ impl Chains {
     /// As `Xt::get`.
     pub fn length<P: Peek>(self, xt: &mut Xt<P>) -> Result<Reply, Stop>
         requires lie { LieInside self }
-        requires store { cells_end self ≤ P.locations xt.old.peek }
+        requires store { chain_cells_end self ≤ P.locations xt.old.peek }
         ensures goes { Does P.peek_gives (length_program self) xt.old result xt.new }
         ensures size { P.locations xt.new.peek ≡ P.locations xt.old.peek }
     {
@@ -120,7 +120,7 @@ fn insert<P: Peek>(
 ) -> Result<Placed, Stop>
     requires lie { LieInside chains }
     requires bucket { bucket < chains.buckets }
-    requires store { cells_end chains ≤ P.locations xt.old.peek }
+    requires store { chain_cells_end chains ≤ P.locations xt.old.peek }
     ensures goes { Does P.peek_gives (insert_program chains key value bucket) xt.old result xt.new }
     ensures size { P.locations xt.new.peek ≡ P.locations xt.old.peek }
 {

@@ -2,7 +2,7 @@
 
 ghost use Rattle.std.specs.Prelude.{◌≡◌, ◌≤◌, ◌<◌, ◌+◌, ◌*◌, IfOk, IfSome};
 ghost use Rattle.kc_xt.specs.Steps.{Does};
-ghost use Rattle.kc_chain.specs.Meaning.{walk_program, cells_end, IsWithin, LieInside};
+ghost use Rattle.kc_chain.specs.Meaning.{walk_program, chain_cells_end, PlaceIsWithin, LieInside};
 
 use crate::layout::Chains;
 use kc_model::Loc;
@@ -24,9 +24,9 @@ pub(crate) fn walk<P: Peek>(
 ) -> Result<Option<Place>, Stop>
     requires lie { LieInside chains }
     requires bucket { bucket < chains.buckets }
-    requires store { cells_end chains ≤ P.locations xt.old.peek }
+    requires store { chain_cells_end chains ≤ P.locations xt.old.peek }
     ensures goes { Does P.peek_gives (walk_program chains key bucket) xt.old result xt.new }
-    ensures place { IfOk result (λ found. IfSome found (λ place. IsWithin chains place)) }
+    ensures place { IfOk result (λ found. IfSome found (λ place. PlaceIsWithin chains place)) }
     ensures size { P.locations xt.new.peek ≡ P.locations xt.old.peek }
 {
     let mut from = Loc(chains.heads + bucket);

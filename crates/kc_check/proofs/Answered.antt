@@ -8,7 +8,7 @@ use Rattle.kc_model.specs.declared.reply.Reply.TheVariants as reply
 use Rattle.kc_model.specs.declared.reply.Answer.{Answer}
 use Rattle.kc_model.specs.declared.reply.Answer.TheVariants as answer
 use Rattle.kc_check.proofs.Worded.{says_one}
-use Rattle.kc_script_small.specs.Small.{Fits, ItemFits}
+use Rattle.kc_script_small.specs.Small.{AnswerFits, ItemFits}
 use Rattle.kc_check.specs.Reads.{SayItems, SaysAnswer}
 
 or_first : (a b : Bool) → a ≡ true → (a || b) ≡ true
@@ -41,7 +41,7 @@ says_answer text a x b c d h z k l m = (there a x b c d h z k l m, λ (y, fits, 
     items : SayItems 16 text → (a || x || b || c || d) ≡ true
     items s = or_second (a || x || b || c) d (m.1 s)
 
-    back : (y : Answer) → Fits y → text ≡ answer_text y → (a || x || b || c || d) ≡ true
+    back : (y : Answer) → AnswerFits y → text ≡ answer_text y → (a || x || b || c || d) ≡ true
     back (answer.Reply reply.Unit) fits is = items (one_item text item.Unit tt is)
     back (answer.Reply (reply.Value n)) fits is = items (one_item text (item.Value n) fits is)
     back (answer.Reply (reply.Bool true)) fits is = items (one_item text (item.Bool true) tt is)

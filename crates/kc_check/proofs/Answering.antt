@@ -2,7 +2,7 @@
 use Rattle.std.proofs.Common.{ℕ, List, sym, subst}
 use Rattle.std.specs.Prelude.{IfErr, IfOk, Result, Ok, Err}
 use Rattle.kc_script_bundle.specs.Script.{Script}
-use Rattle.kc_check.specs.Faults.{FailsFor, IsLegal}
+use Rattle.kc_check.specs.Faults.{FailsFor, IsLegalText}
 use Rattle.kc_check.specs.Forms.{IsFormed}
 use Rattle.kc_check.specs.Judged.{FailsWith}
 use Rattle.kc_check.specs.Parts.{Parts, parts_text}
@@ -35,6 +35,6 @@ pub judged_fails : (s : Script) (text : List ℕ) (parts : Parts) (r : Result (U
 judged_fails s text parts (Ok u) formed h = tt
 judged_fails s text parts (Err e) formed h = later_fails s text parts e formed h
 
-pub judged_legal : (s : Script) (text : List ℕ) (parts : Parts) (r : Result (Unit {0}) CheckError) → IsFormed s text parts → IfOk r (λ (u : Unit {0}). IsLegal s (parts_text s.threads parts)) → IfOk r (λ (u : Unit {0}). IsLegal s text)
-judged_legal s text parts (Ok u) formed h = subst (IsLegal s) (sym formed.spelled) h
+pub judged_legal : (s : Script) (text : List ℕ) (parts : Parts) (r : Result (Unit {0}) CheckError) → IsFormed s text parts → IfOk r (λ (u : Unit {0}). IsLegalText s (parts_text s.threads parts)) → IfOk r (λ (u : Unit {0}). IsLegalText s text)
+judged_legal s text parts (Ok u) formed h = subst (IsLegalText s) (sym formed.spelled) h
 judged_legal s text parts (Err e) formed h = tt

@@ -5,7 +5,7 @@ use Rattle.kc_script.proofs.Spelled.{spelled_threads, spelled_threads_few, threa
 use Rattle.kc_script.specs.Spells.{Spells}
 use Rattle.kc_script_bundle.specs.Script.{Script}
 use Rattle.kc_script_small.proofs.Runs.{answers_fit}
-use Rattle.kc_script_small.specs.Small.{AllFit}
+use Rattle.kc_script_small.specs.Small.{AllAnswersFit}
 use Rattle.kc_xt.specs.Meaning.{values}
 use Rattle.kc_check.proofs.First.{later_one}
 use Rattle.kc_check.proofs.Formed.{formed_joined, formed_shaped, lines_of, run_held, run_replies}
@@ -14,7 +14,7 @@ use Rattle.kc_check.proofs.Opened.{objects_few, said_of, spelled_names}
 use Rattle.kc_check.proofs.Printed.{held_are_lines, laid_of, later_not_legal, legal_spelled, replies_are_lines}
 use Rattle.kc_check.proofs.Shown.{parts_of, run_count, run_formed, run_laid}
 use Rattle.kc_check.proofs.Unique.{parts_one}
-use Rattle.kc_check.specs.Faults.{Fails, FailsFor, FailsIn, FailsLater, IsFault, IsLegal}
+use Rattle.kc_check.specs.Faults.{CheckFails, FailsFor, FailsIn, FailsLater, IsFault, IsLegalText}
 use Rattle.kc_check.specs.Forms.{IsFormed, IsMisformed, shapes}
 use Rattle.kc_check.specs.Parts.{Parts}
 use Rattle.kc_check.specs.Reads.{HaveNames}
@@ -41,7 +41,7 @@ module _ (s : Script) (few : length s.threads ≤ 16) (short : (t : ℕ) → len
   form_once text line again h k = (misses_once s.threads (shapes s) text 1 line again (shapes_of_lines s few short names) h k, refl)
 
   -- behind a later test, any other
-  later_or : (text : List ℕ) (line again : ℕ) (w x : CheckWhy) → length s.objects ≤ 65536 → FailsLater s text line w → Fails s text again x → (line ≡ again) × (w ≡ x)
+  later_or : (text : List ℕ) (line again : ℕ) (w x : CheckWhy) → length s.objects ≤ 65536 → FailsLater s text line w → CheckFails s text again x → (line ≡ again) × (w ≡ x)
   later_or text line again w why.Form some h k = absurd (formed_well text h.parts again h.formed k)
   later_or text line again w why.Turn some h k = later_once text line again w why.Turn some h k
   later_or text line again w why.Waits some h k = later_once text line again w why.Waits some h k
@@ -49,7 +49,7 @@ module _ (s : Script) (few : length s.threads ≤ 16) (short : (t : ℕ) → len
   later_or text line again w why.Order some h k = later_once text line again w why.Order some h k
   later_or text line again w why.State some h k = later_once text line again w why.State some h k
 
-  fails_once : (text : List ℕ) (line again : ℕ) (w x : CheckWhy) → length s.objects ≤ 65536 → Fails s text line w → Fails s text again x → (line ≡ again) × (w ≡ x)
+  fails_once : (text : List ℕ) (line again : ℕ) (w x : CheckWhy) → length s.objects ≤ 65536 → CheckFails s text line w → CheckFails s text again x → (line ≡ again) × (w ≡ x)
   fails_once text line again why.Form why.Form some h k = form_once text line again h k
   fails_once text line again why.Form why.Turn some h k = absurd (formed_well text k.parts line k.formed h)
   fails_once text line again why.Form why.Waits some h k = absurd (formed_well text k.parts line k.formed h)
@@ -63,13 +63,13 @@ module _ (s : Script) (few : length s.threads ≤ 16) (short : (t : ℕ) → len
   fails_once text line again why.State x some h k = later_or text line again why.State x some h k
 
   -- no run's text is misformed
-  legal_formed : (text : List ℕ) (legal : IsLegal s text) → AllFit legal.records → IsFormed s text (parts_of s legal.records legal.is.order legal.is.last legal.is.run)
+  legal_formed : (text : List ℕ) (legal : IsLegalText s text) → AllAnswersFit legal.records → IsFormed s text (parts_of s legal.records legal.is.order legal.is.last legal.is.run)
   legal_formed text legal fit =
       let t = legal.is in
       let laid = run_laid s legal.records t.order t.last t.run text (run_count s legal.records t.order t.last t.run) (replies_are_lines 1 s.threads legal.records t.run.threads) (held_are_lines s.objects (values t.last) names) (legal_spelled s text legal) in
       run_formed s legal.records t.order t.last t.run text laid (run_replies 1 s.threads legal.records t.run.threads fit) (run_held s.objects (values t.last))
 
-  none_fails : (text : List ℕ) (line : ℕ) (w : CheckWhy) (legal : IsLegal s text) → AllFit legal.records → Fails s text line w → ⊥
+  none_fails : (text : List ℕ) (line : ℕ) (w : CheckWhy) (legal : IsLegalText s text) → AllAnswersFit legal.records → CheckFails s text line w → ⊥
   none_fails text line why.Form legal fit h = formed_well text (parts_of s legal.records legal.is.order legal.is.last legal.is.run) line (legal_formed text legal fit) h
   none_fails text line why.Turn legal fit h = later_not_legal s few short names text h.parts line why.Turn h.formed h.fails legal
   none_fails text line why.Waits legal fit h = later_not_legal s few short names text h.parts line why.Waits h.formed h.fails legal
@@ -83,16 +83,16 @@ module _ {bytes : List ℕ} {s : Script} (spells : Spells bytes s) where
   short : (t : ℕ) → length (slice_index_or s.threads t []) ≤ 4096
   short t = (thread_at s.objects s.threads t (spelled_threads spells)).0
 
-  pub faults_one : (text : List ℕ) (line again : ℕ) (w x : CheckWhy) → Fails s text line w → Fails s text again x → (line ≡ again) × (w ≡ x)
+  pub faults_one : (text : List ℕ) (line again : ℕ) (w x : CheckWhy) → CheckFails s text line w → CheckFails s text again x → (line ≡ again) × (w ≡ x)
   faults_one text line again w x h k = fails_once s (spelled_threads_few spells) short (spelled_names spells) text line again w x (objects_few spells) h k
 
-  pub runs_fail_none : (text : List ℕ) (line : ℕ) (w : CheckWhy) → IsLegal s text → Fails s text line w → ⊥
+  pub runs_fail_none : (text : List ℕ) (line : ℕ) (w : CheckWhy) → IsLegalText s text → CheckFails s text line w → ⊥
   runs_fail_none text line w legal h = none_fails s (spelled_threads_few spells) short (spelled_names spells) text line w legal (answers_fit legal.records legal.is.order legal.is.last spells legal.is.run) h
 
-  refuses : (text : List ℕ) (e : CheckError) → FailsFor s text e → IsFault e → IsLegal s text → ⊥
+  refuses : (text : List ℕ) (e : CheckError) → FailsFor s text e → IsFault e → IsLegalText s text → ⊥
   refuses text (error.Fault line w) h fault legal = runs_fail_none text line w legal h
   refuses text error.NoMemory h fault legal = fault
 
-  pub refused : {A : Type 0} (text : List ℕ) (r : Result A CheckError) → IfErr r (FailsFor s text) → IfErr r (λ e. IsFault e → IsLegal s text → ⊥)
+  pub refused : {A : Type 0} (text : List ℕ) (r : Result A CheckError) → IfErr r (FailsFor s text) → IfErr r (λ e. IsFault e → IsLegalText s text → ⊥)
   refused text (Ok u) h = tt
   refused text (Err e) h = refuses text e h

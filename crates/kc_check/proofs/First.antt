@@ -3,7 +3,7 @@ use Rattle.std.proofs.Common.{◌≡◌, inl, inr, ℕ, zero, suc, ◌+◌, ◌<
 use Rattle.std.specs.Option.{option_map}
 use Rattle.kc_history.proofs.Choice.{some_is, none_ready, one_order}
 use Rattle.kc_history.proofs.Ready.{same_or, more_same, more_other}
-use Rattle.kc_history.specs.Order.{Footprints, IsCanonical, more}
+use Rattle.kc_history.specs.Order.{Footprints, IsCanonical, one_record_more}
 use Rattle.kc_history.specs.Records.{footprint_at, record_at}
 use Rattle.kc_history.specs.declared.record.Place.{Place}
 use Rattle.kc_history.specs.declared.record.Record.{Record}
@@ -19,8 +19,8 @@ use Rattle.kc_check.proofs.Counting.{all_stand}
 use Rattle.kc_check.proofs.Fronts.{none_waits, not_out_of_turn, not_replying_else, not_waiting, turns_are_one}
 use Rattle.kc_check.proofs.Refuted.{at_one, first_differ, held_apart}
 use Rattle.kc_check.proofs.Unique.{heads, tails}
-use Rattle.kc_check.specs.Faults.{Comes, ComesWhole, FailsIn, HasToWait, InTurn, IsOutOfTurn, RepliesElse, StopsAt}
-use Rattle.kc_check.specs.Judged.{IsSaid}
+use Rattle.kc_check.specs.Faults.{PlacesReplayed, ComesWhole, FailsIn, HasToWait, InTurn, IsOutOfTurn, RepliesElse, StopsAt}
+use Rattle.kc_check.specs.Judged.{PartsAreSaid}
 use Rattle.kc_check.specs.Orders.{DiffersAt}
 use Rattle.kc_check.specs.Parts.{Parts, place_number, reply_number, state_number}
 use Rattle.kc_check.specs.Shown.{UnlikeAt, held_lines}
@@ -57,8 +57,8 @@ module _ (limit : ℕ) (threads : List (List Command)) (replies : List (List (Li
 
   -- it can't be wrong so, where it comes
   abbrev Refutes : Wrongness → Type 0
-  Refutes Wrong = (front : List Place) (p : Place) (back : List Place) (stand : ℕ → ℕ) (e : Store) (records : List (List Record)) → Comes limit threads replies first (front ++ p ∷ back) stand e records
-      → (stand' : ℕ → ℕ) (now' : Store) (others : List (List Record)) → Comes limit threads replies first front stand' now' others → Wrong p stand' now' → ⊥
+  Refutes Wrong = (front : List Place) (p : Place) (back : List Place) (stand : ℕ → ℕ) (e : Store) (records : List (List Record)) → PlacesReplayed limit threads replies first (front ++ p ∷ back) stand e records
+      → (stand' : ℕ → ℕ) (now' : Store) (others : List (List Record)) → PlacesReplayed limit threads replies first front stand' now' others → Wrong p stand' now' → ⊥
 
   pub turn_refutes : Refutes (IsOutOfTurn limit threads replies first)
   turn_refutes front p back stand e records comes stand' now' others also = not_out_of_turn limit threads replies first front p back stand e records comes stand' now' others also
@@ -76,12 +76,12 @@ module _ (limit : ℕ) (threads : List (List Command)) (replies : List (List (Li
     not_before : length front < length other → ⊥
     not_before lt =
         let (more, is) = further front other p q h.back k.back lt both_split in
-        v front p more k.stand k.now k.records (subst (λ (ps : List Place). Comes limit threads replies first ps k.stand k.now k.records) is k.comes) h.stand h.now h.records h.comes h.wrong
+        v front p more k.stand k.now k.records (subst (λ (ps : List Place). PlacesReplayed limit threads replies first ps k.stand k.now k.records) is k.comes) h.stand h.now h.records h.comes h.wrong
 
     not_behind : length other < length front → ⊥
     not_behind lt =
         let (more, is) = further other front q p k.back h.back lt (sym both_split) in
-        w other q more h.stand h.now h.records (subst (λ (ps : List Place). Comes limit threads replies first ps h.stand h.now h.records) is h.comes) k.stand k.now k.records k.comes k.wrong
+        w other q more h.stand h.now h.records (subst (λ (ps : List Place). PlacesReplayed limit threads replies first ps h.stand h.now h.records) is h.comes) k.stand k.now k.records k.comes k.wrong
 
     pub one_front : front ≡ other
     one_front = same_front front other p q h.back k.back (by_size (length front) (length other) not_before not_behind) both_split
@@ -89,8 +89,8 @@ module _ (limit : ℕ) (threads : List (List Command)) (replies : List (List (Li
     pub one_place : p ≡ q
     one_place = at_one front other p q h.back k.back (by_size (length front) (length other) not_before not_behind) both_split
 
-    also : Comes limit threads replies first front k.stand k.now k.records
-    also = subst (λ (ps : List Place). Comes limit threads replies first ps k.stand k.now k.records) (sym one_front) k.comes
+    also : PlacesReplayed limit threads replies first front k.stand k.now k.records
+    also = subst (λ (ps : List Place). PlacesReplayed limit threads replies first ps k.stand k.now k.records) (sym one_front) k.comes
 
     pub one_stand : h.stand ≡ k.stand
     one_stand = turns_are_one front (λ _. 0) h.stand k.stand h.comes.turns also.turns
@@ -117,17 +117,17 @@ turn_has (p ∷ ps) n m h u k le lt = elim (same_or u p.thread) [
         let index : p.index ≡ k = h.0 ∙ ap n (sym e) ∙ sym i in
         (0, omega arith, ap₂ place (sym e) index)
     | inr ne ↦
-        let stands : more p.thread n u ≡ n u + 1 = more_same p.thread n u e in
-        behind p ps (place u k) (turn_has ps (more p.thread n) m h.1 u k (omega arith) lt)
+        let stands : one_record_more p.thread n u ≡ n u + 1 = more_same p.thread n u e in
+        behind p ps (place u k) (turn_has ps (one_record_more p.thread n) m h.1 u k (omega arith) lt)
   ]
   | inr ne ↦
-      let stands : more p.thread n u ≡ n u = more_other p.thread n u ne in
-      behind p ps (place u k) (turn_has ps (more p.thread n) m h.1 u k (omega arith) lt)
+      let stands : one_record_more p.thread n u ≡ n u = more_other p.thread n u ne in
+      behind p ps (place u k) (turn_has ps (one_record_more p.thread n) m h.1 u k (omega arith) lt)
 ] where
   behind : (p : Place) (ps : List Place) (q : Place) → Contains ps q → Contains (p ∷ ps) q
   behind p ps q (i, lt, is) = (suc i, omega arith, is)
 
-module _ (s : Script) (parts : Parts) (said : IsSaid s parts) where
+module _ (s : Script) (parts : Parts) (said : PartsAreSaid s parts) where
   whole_has : (last : Store) (records : List (List Record)) → ComesWhole s parts last records → (t k : ℕ) (r : Record) → record_at records t k ≡ Some r → Contains parts.places (place t k)
   whole_has last records whole t k r at =
       let none = all_stand s.threads records whole.comes.labelled parts.places whole.stand said.places whole.comes.turns said.count in
@@ -147,7 +147,7 @@ module _ (s : Script) (parts : Parts) (said : IsSaid s parts) where
 
   -- no place that comes stops a walk
   stops_never : (Wrong : Place → (ℕ → ℕ) → Store → Type 0) → Refutes s.limit s.threads parts.replies (opening_store s) parts.places Wrong → (p : Place) (front : List Place) → StopsAt s.limit s.threads parts.replies (opening_store s) parts.places Wrong p front → (last : Store) (records : List (List Record)) → ComesWhole s parts last records → ⊥
-  stops_never Wrong refutes p front stops last records whole = refutes front p stops.back whole.stand last records (subst (λ (ps : List Place). Comes s.limit s.threads parts.replies (opening_store s) ps whole.stand last records) stops.splits whole.comes) stops.stand stops.now stops.records stops.comes stops.wrong
+  stops_never Wrong refutes p front stops last records whole = refutes front p stops.back whole.stand last records (subst (λ (ps : List Place). PlacesReplayed s.limit s.threads parts.replies (opening_store s) ps whole.stand last records) stops.splits whole.comes) stops.stand stops.now stops.records stops.comes stops.wrong
 
   canonical_one : (records others : List (List Record)) (order again : List Place) → records ≡ others → IsCanonical (footprint_at records) order → IsCanonical (footprint_at others) again → order ≡ again
   canonical_one records others order again e c d =

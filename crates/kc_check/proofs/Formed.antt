@@ -12,15 +12,15 @@ use Rattle.kc_history.specs.declared.record.Record.{Record}
 use Rattle.kc_script_bundle.specs.Script.{Names, Script}
 use Rattle.kc_script_bundle.specs.State.{Content, content_text, items as shows_items, number as shows_number, number_text, pair_text, pairs as shows_pairs, place as shows_place, shown}
 use Rattle.kc_script_bundle.specs.declared.operation.Command.{Command}
-use Rattle.kc_script_runs.specs.Labels.{AreThreads, Label, label, labels}
-use Rattle.kc_script_small.specs.Small.{AllFit, Fits}
+use Rattle.kc_script_runs.specs.Labels.{ThreadsHaveRecords, Label, label, labels}
+use Rattle.kc_script_small.specs.Small.{AllAnswersFit, AnswerFits}
 use Rattle.kc_check.proofs.Forming.{lacks_by_test}
 use Rattle.kc_check.proofs.Parted.{held_shapes, joined_append, joined_flat, joined_places, shaped_append}
 use Rattle.kc_check.proofs.Printed.{number_lacks}
 use Rattle.kc_check.proofs.Unique.{heads, tails}
 use Rattle.kc_check.specs.Forms.{AllReplies, AreHeld, AreReplies, AreShaped, IsFormed, IsReply, IsWord, flat, just, place, replies_shapes, shapes, thread_shapes}
-use Rattle.kc_check.specs.Laid.{Lacks}
-use Rattle.kc_check.specs.Parts.{IsPlace, Parts, joined, place_text, places_in, places_text, replies_text}
+use Rattle.kc_check.specs.Laid.{ByteIsMissing}
+use Rattle.kc_check.specs.Parts.{IsThreadPlace, Parts, joined_lines, place_text, places_in, places_text, replies_text}
 use Rattle.kc_check.specs.Shown.{held_lines, lines_for, replies_for}
 
 -- ---- what has the form comes line by line
@@ -38,7 +38,7 @@ module _ (all : List (List Command)) where
   replies_shaped thread (cs ∷ threads) [] h = absurd h
   replies_shaped thread (cs ∷ threads) (r ∷ rs) h = shaped_append all (thread_shapes thread 1 (length cs)) (replies_shapes (thread + 1) threads) r (flat rs) (thread_shaped thread 1 cs r h.0) (replies_shaped (thread + 1) threads rs h.1)
 
-  places_shaped : (n : ℕ) (ps : List Place) → length ps ≡ n → All (IsPlace all) ps → AreShaped all (replicate n place) (map (place_text all) ps)
+  places_shaped : (n : ℕ) (ps : List Place) → length ps ≡ n → All (IsThreadPlace all) ps → AreShaped all (replicate n place) (map (place_text all) ps)
   places_shaped zero [] e h = tt
   places_shaped zero (p ∷ ps) e h = absurd (omega (arith, e))
   places_shaped (suc n) [] e h = absurd (omega (arith, e))
@@ -60,20 +60,20 @@ module _ (s : Script) (text : List ℕ) (parts : Parts) (formed : IsFormed s tex
       shaped_append s.threads (replies_shapes 1 s.threads) (just (codes "order\n") ∷ (replicate (places_in s.threads) place ++ (just (codes "state\n") ∷ held_shapes s.objects))) (flat parts.replies) (codes "order\n" ∷ (map (place_text s.threads) parts.places ++ (codes "state\n" ∷ parts.state))) (replies_shaped s.threads 1 s.threads parts.replies formed.replies)
       (refl, shaped_append s.threads (replicate (places_in s.threads) place) (just (codes "state\n") ∷ held_shapes s.objects) (map (place_text s.threads) parts.places) (codes "state\n" ∷ parts.state) (places_shaped s.threads (places_in s.threads) parts.places formed.count formed.places) (refl, held_shaped s.threads s.objects parts.state formed.state))
 
-  pub formed_joined : text ≡ joined lines_of
+  pub formed_joined : text ≡ joined_lines lines_of
   unfolding lines_of
   formed_joined =
       let rest : List (List ℕ) = map (place_text s.threads) parts.places ++ (codes "state\n" ∷ parts.state) in
-      let opened : joined lines_of ≡ replies_text parts.replies ++ (codes "order\n" ++ (places_text s.threads parts.places ++ (codes "state\n" ++ joined parts.state))) =
-      joined_append [] (flat parts.replies) (codes "order\n" ∷ rest) ∙ ap₂ (λ (xs ys : List ℕ). xs ++ (codes "order\n" ++ ys)) (joined_flat parts.replies) (joined_append [] (map (place_text s.threads) parts.places) (codes "state\n" ∷ parts.state) ∙ ap (λ (xs : List ℕ). xs ++ (codes "state\n" ++ joined parts.state)) (joined_places s.threads parts.places)) in
-      formed.spelled ∙ regroup (replies_text parts.replies) (codes "order\n") (places_text s.threads parts.places) (codes "state\n") (joined parts.state) ∙ sym opened
+      let opened : joined_lines lines_of ≡ replies_text parts.replies ++ (codes "order\n" ++ (places_text s.threads parts.places ++ (codes "state\n" ++ joined_lines parts.state))) =
+      joined_append [] (flat parts.replies) (codes "order\n" ∷ rest) ∙ ap₂ (λ (xs ys : List ℕ). xs ++ (codes "order\n" ++ ys)) (joined_flat parts.replies) (joined_append [] (map (place_text s.threads) parts.places) (codes "state\n" ∷ parts.state) ∙ ap (λ (xs : List ℕ). xs ++ (codes "state\n" ++ joined_lines parts.state)) (joined_places s.threads parts.places)) in
+      formed.spelled ∙ regroup (replies_text parts.replies) (codes "order\n") (places_text s.threads parts.places) (codes "state\n") (joined_lines parts.state) ∙ sym opened
     where
       regroup : (a b c d e : List ℕ) → (((a ++ b) ++ c) ++ d) ++ e ≡ a ++ (b ++ (c ++ (d ++ e)))
       regroup a b c d e = append_assoc ((a ++ b) ++ c) d e ∙ append_assoc (a ++ b) c (d ++ e) ∙ append_assoc a b (c ++ (d ++ e))
 
 -- ---- a run's replies
 
-reply_is : (thread n : ℕ) (r : Record) → label r ≡ (let l : Label = record { thread = thread; mark = mark.Command n } in l) → Fits r.answer → IsReply thread n (reply_line r)
+reply_is : (thread n : ℕ) (r : Record) → label r ≡ (let l : Label = record { thread = thread; mark = mark.Command n } in l) → AnswerFits r.answer → IsReply thread n (reply_line r)
 reply_is thread n r e fits =
     let marked : r.mark ≡ mark.Command n = ap (λ (l : Label). l.mark) e in
     let numbered : r.thread ≡ thread = ap (λ (l : Label). l.thread) e in
@@ -83,7 +83,7 @@ reply_is thread n r e fits =
       spelled = ap (λ (m : Mark). marked_reply m r) marked ∙ ap (λ (m : Mark). decimal r.thread ++ codes "." ++ mark_text m ++ codes " " ++ answer_text r.answer ++ codes "\n") marked ∙ ap (λ (t : ℕ). decimal t ++ codes "." ++ decimal n ++ codes " " ++ answer_text r.answer ++ codes "\n") numbered;
     }
 
-run_replies_in : (thread n : ℕ) (cs : List Command) (rs : List Record) → map label rs ≡ labels thread n cs → ((k : ℕ) (r : Record) → slice_get rs k ≡ Some r → Fits r.answer) → AreReplies thread n cs (lines_for cs rs)
+run_replies_in : (thread n : ℕ) (cs : List Command) (rs : List Record) → map label rs ≡ labels thread n cs → ((k : ℕ) (r : Record) → slice_get rs k ≡ Some r → AnswerFits r.answer) → AreReplies thread n cs (lines_for cs rs)
 run_replies_in thread n [] rs e fit = tt
 run_replies_in thread n (c ∷ cs) [] e fit = absurd (cc)
 run_replies_in thread n (c ∷ cs) (r ∷ rs) e fit = (
@@ -91,7 +91,7 @@ run_replies_in thread n (c ∷ cs) (r ∷ rs) e fit = (
   run_replies_in thread (n + 1) cs rs (tails (label r) (record { thread = thread; mark = mark.Command n }) (map label rs) (labels thread (n + 1) cs) e) (λ k q at. fit (suc k) q at),
 )
 
-pub run_replies : (j : ℕ) (threads : List (List Command)) (records : List (List Record)) → AreThreads j threads records → AllFit records → AllReplies j threads (replies_for threads records)
+pub run_replies : (j : ℕ) (threads : List (List Command)) (records : List (List Record)) → ThreadsHaveRecords j threads records → AllAnswersFit records → AllReplies j threads (replies_for threads records)
 run_replies j [] [] h fit = tt
 run_replies j [] (rs ∷ records) h fit = absurd h
 run_replies j (cs ∷ threads) [] h fit = absurd h
@@ -115,7 +115,7 @@ number_some n = by (n / 10 == 0) (omega arith) (onto_some 63 (n / 10) (digit_gly
     by true x y = x
     by false x y = y
 
-solid : (bs : List ℕ) → Lacks 32 bs → Lacks 10 bs → All (λ b. (b ≢ 32) × (b ≢ 10)) bs
+solid : (bs : List ℕ) → ByteIsMissing 32 bs → ByteIsMissing 10 bs → All (λ b. (b ≢ 32) × (b ≢ 10)) bs
 solid [] h k i d lt = absurd (omega arith)
 solid (b ∷ bs) h k zero d lt = (h.0, k.0)
 solid (b ∷ bs) h k (suc i) d lt = solid bs h.1 k.1 i d (omega arith)
@@ -133,7 +133,7 @@ pair_word a b = record {
     longer [] ys h = absurd (omega arith)
     longer (x ∷ xs) ys h = omega arith
 
-    both : (c : ℕ) (xs ys : List ℕ) → Lacks c xs → Lacks c ys → Lacks c (xs ++ ys)
+    both : (c : ℕ) (xs ys : List ℕ) → ByteIsMissing c xs → ByteIsMissing c ys → ByteIsMissing c (xs ++ ys)
     both c [] ys h k = k
     both c (x ∷ xs) ys h k = (h.0, both c xs ys h.1 k)
 

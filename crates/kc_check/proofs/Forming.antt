@@ -13,10 +13,10 @@ use Rattle.kc_model.specs.declared.reply.Answer.{Answer}
 use Rattle.kc_model.specs.declared.reply.Answer.TheVariants as answer
 use Rattle.kc_script_bundle.specs.declared.operation.Command.{Command}
 use Rattle.kc_check.proofs.Unique.{decimal_lacks, lacks_append, line_one}
-use Rattle.kc_check.specs.Forms.{AreShaped, FailsAt, Goes, HasShape, IsReply, Shape, answers, thread_shapes}
-use Rattle.kc_script_small.specs.Small.{Fits, ItemFits}
-use Rattle.kc_check.specs.Laid.{IsLine, Lacks}
-use Rattle.kc_check.specs.Parts.{joined}
+use Rattle.kc_check.specs.Forms.{AreShaped, FailsAt, GoesOverLines, HasShape, IsReply, Shape, answers, thread_shapes}
+use Rattle.kc_script_small.specs.Small.{AnswerFits, ItemFits}
+use Rattle.kc_check.specs.Laid.{IsLine, ByteIsMissing}
+use Rattle.kc_check.specs.Parts.{joined_lines}
 use Rattle.kc_check.specs.Reads.{FailsHowever, LacksReply}
 use Rattle.kc_check.specs.declared.error.CheckError.{CheckError}
 use Rattle.kc_check.specs.declared.error.CheckError.TheVariants as error
@@ -28,14 +28,14 @@ and_true : (a b : Bool) → (a && b) ≡ true → (a ≡ true) × (b ≡ true)
 and_true true b e = (refl, e)
 and_true false b e = absurd (cc)
 
-pub lacks_by_test : (bs : List ℕ) → list_all (λ b. not (b == 10)) bs ≡ true → Lacks 10 bs
+pub lacks_by_test : (bs : List ℕ) → list_all (λ b. not (b == 10)) bs ≡ true → ByteIsMissing 10 bs
 lacks_by_test [] h = tt
 lacks_by_test (b ∷ bs) h = let p = and_true (not (b == 10)) (list_all (λ c. not (c == 10)) bs) h in (far b p.0, lacks_by_test bs p.1)
   where
     far : (b : ℕ) → not (b == 10) ≡ true → b ≢ 10
     far b e = λ same. (grind (arith, nat_tests))
 
-item_lacks : (i : Item) → ItemFits i → Lacks 10 (item_text i)
+item_lacks : (i : Item) → ItemFits i → ByteIsMissing 10 (item_text i)
 item_lacks item.Unit h = lacks_by_test (codes "ok") refl
 item_lacks (item.Value n) h = decimal_lacks 10 n (omega arith) (omega arith)
 item_lacks (item.Bool true) h = lacks_by_test (codes "true") refl
@@ -43,11 +43,11 @@ item_lacks (item.Bool false) h = lacks_by_test (codes "false") refl
 item_lacks item.Empty h = lacks_by_test (codes "none") refl
 item_lacks item.Full h = lacks_by_test (codes "full") refl
 
-spaced_lacks : (items : List Item) → All ItemFits items → Lacks 10 (spaced_items items)
+spaced_lacks : (items : List Item) → All ItemFits items → ByteIsMissing 10 (spaced_items items)
 spaced_lacks [] h = tt
 spaced_lacks (i ∷ items) h = lacks_append 10 (codes " " ++ item_text i) (spaced_items items) (lacks_append 10 (codes " ") (item_text i) (lacks_by_test (codes " ") refl) (item_lacks i (h zero i (omega arith)))) (spaced_lacks items (λ k d lt. h (suc k) d (omega arith)))
 
-answer_lacks : (a : Answer) → Fits a → Lacks 10 (answer_text a)
+answer_lacks : (a : Answer) → AnswerFits a → ByteIsMissing 10 (answer_text a)
 answer_lacks (answer.Reply reply.Unit) h = lacks_by_test (codes "ok") refl
 answer_lacks (answer.Reply (reply.Value n)) h = decimal_lacks 10 n (omega arith) (omega arith)
 answer_lacks (answer.Reply (reply.Bool true)) h = lacks_by_test (codes "true") refl
@@ -69,13 +69,13 @@ reply_is_line thread number line small few r = record {
   is = r.spelled;
 }
 
-no_newline : (xs ys : List ℕ) → Lacks 10 (xs ++ 10 ∷ ys) → ⊥
+no_newline : (xs ys : List ℕ) → ByteIsMissing 10 (xs ++ 10 ∷ ys) → ⊥
 no_newline [] ys h = h.0 refl
 no_newline (x ∷ xs) ys h = no_newline xs ys h.1
 
 -- where no line ends, none is a first one
-pub none_first : (text first rest : List ℕ) → Lacks 10 text → IsLine first → text ≢ first ++ rest
-none_first text first rest lacks line e = no_newline line.body rest (subst (Lacks 10) (e ∙ ap (λ (z : List ℕ). z ++ rest) line.is ∙ append_assoc line.body (10 ∷ []) rest) lacks)
+pub none_first : (text first rest : List ℕ) → ByteIsMissing 10 text → IsLine first → text ≢ first ++ rest
+none_first text first rest lacks line e = no_newline line.body rest (subst (ByteIsMissing 10) (e ∙ ap (λ (z : List ℕ). z ++ rest) line.is ∙ append_assoc line.body (10 ∷ []) rest) lacks)
 
 -- the first line is one
 pub no_other_first : (text line after first rest : List ℕ) → IsLine line → IsLine first → text ≡ line ++ after → text ≡ first ++ rest → first ≡ line
@@ -84,7 +84,7 @@ no_other_first text line after first rest h k e f = (line_one first line rest af
 -- ---- shapes one after another
 
 module _ (threads : List (List Command)) where
-  pub goes_none : (text : List ℕ) (n : ℕ) → Goes threads [] text n [] text n
+  pub goes_none : (text : List ℕ) (n : ℕ) → GoesOverLines threads [] text n [] text n
   goes_none text n = record { shaped = tt; spelled = refl; number = omega arith }
 
   shaped_more : (ks : List Shape) (k : Shape) (ls : List (List ℕ)) (l : List ℕ) → AreShaped threads ks ls → HasShape threads k l → AreShaped threads (ks ++ k ∷ []) (ls ++ l ∷ [])
@@ -93,22 +93,22 @@ module _ (threads : List (List Command)) where
   shaped_more (j ∷ ks) k [] l h s = absurd h
   shaped_more (j ∷ ks) k (x ∷ ls) l h s = (h.0, shaped_more ks k ls l h.1 s)
 
-  joined_more : (ls : List (List ℕ)) (l rest : List ℕ) → joined ls ++ (l ++ rest) ≡ joined (ls ++ l ∷ []) ++ rest
+  joined_more : (ls : List (List ℕ)) (l rest : List ℕ) → joined_lines ls ++ (l ++ rest) ≡ joined_lines (ls ++ l ∷ []) ++ rest
   joined_more [] l rest = ap (λ (z : List ℕ). z ++ rest) (sym (append-nil l))
-  joined_more (x ∷ ls) l rest = append_assoc x (joined ls) (l ++ rest) ∙ ap (λ (z : List ℕ). x ++ z) (joined_more ls l rest) ∙ sym (append_assoc x (joined (ls ++ l ∷ [])) rest)
+  joined_more (x ∷ ls) l rest = append_assoc x (joined_lines ls) (l ++ rest) ∙ ap (λ (z : List ℕ). x ++ z) (joined_more ls l rest) ∙ sym (append_assoc x (joined_lines (ls ++ l ∷ [])) rest)
 
   one_longer : (ls : List (List ℕ)) (l : List ℕ) → length (ls ++ l ∷ []) ≡ length ls + 1
   one_longer [] l = refl
   one_longer (x ∷ ls) l = let h = one_longer ls l in omega (arith, h)
 
-  pub goes_more : (ks : List Shape) (k : Shape) (text : List ℕ) (n : ℕ) (ls : List (List ℕ)) (rest : List ℕ) (m : ℕ) (l next : List ℕ) (o : ℕ) → Goes threads ks text n ls rest m → HasShape threads k l → rest ≡ l ++ next → o ≡ m + 1 → Goes threads (ks ++ k ∷ []) text n (ls ++ l ∷ []) next o
+  pub goes_more : (ks : List Shape) (k : Shape) (text : List ℕ) (n : ℕ) (ls : List (List ℕ)) (rest : List ℕ) (m : ℕ) (l next : List ℕ) (o : ℕ) → GoesOverLines threads ks text n ls rest m → HasShape threads k l → rest ≡ l ++ next → o ≡ m + 1 → GoesOverLines threads (ks ++ k ∷ []) text n (ls ++ l ∷ []) next o
   goes_more ks k text n ls rest m l next o g s e f = record {
     shaped = shaped_more ks k ls l g.shaped s;
-    spelled = g.spelled ∙ ap (λ (z : List ℕ). joined ls ++ z) e ∙ joined_more ls l next;
+    spelled = g.spelled ∙ ap (λ (z : List ℕ). joined_lines ls ++ z) e ∙ joined_more ls l next;
     number = (let a = g.number in let b = one_longer ls l in omega (arith, a, b, f));
   }
 
-  pub goes_fails : (ks more : List Shape) (text : List ℕ) (n : ℕ) (ls : List (List ℕ)) (rest : List ℕ) (m line : ℕ) → Goes threads ks text n ls rest m → FailsAt threads more rest m line → FailsAt threads (ks ++ more) text n line
+  pub goes_fails : (ks more : List Shape) (text : List ℕ) (n : ℕ) (ls : List (List ℕ)) (rest : List ℕ) (m line : ℕ) → GoesOverLines threads ks text n ls rest m → FailsAt threads more rest m line → FailsAt threads (ks ++ more) text n line
   goes_fails [] more text n [] rest m line g f =
       let a : m ≡ n = (let b = g.number in omega (arith, b)) in
       subst (λ (i : ℕ). FailsAt threads more text i line) a (subst (λ (z : List ℕ). FailsAt threads more z m line) (sym g.spelled) f)
@@ -116,7 +116,7 @@ module _ (threads : List (List Command)) where
   goes_fails (k ∷ ks) more text n [] rest m line g f = absurd g.shaped
   goes_fails (k ∷ ks) more text n (l ∷ ls) rest m line g f =
       let count = g.number in
-      inr (l, joined ls ++ rest, g.shaped.0, g.spelled ∙ append_assoc l (joined ls) rest, goes_fails ks more (joined ls ++ rest) (n + 1) ls rest m line (record { shaped = g.shaped.1; spelled = refl; number = omega (arith, count) }) f)
+      inr (l, joined_lines ls ++ rest, g.shaped.0, g.spelled ∙ append_assoc l (joined_lines ls) rest, goes_fails ks more (joined_lines ls ++ rest) (n + 1) ls rest m line (record { shaped = g.shaped.1; spelled = refl; number = omega (arith, count) }) f)
 
 -- ---- the replies of a thread
 
@@ -134,7 +134,7 @@ shapes_split thread number (suc i) j =
     ∙ ap (λ (ks : List Shape). answers thread number ∷ ks) (shapes_split thread (number + 1) i j ∙ ap (λ k. thread_shapes thread (number + 1) i ++ answers thread k ∷ thread_shapes thread (k + 1) j) (let e : number + 1 + i ≡ number + suc i = omega arith in e))
 
 -- a reply that doesn't come
-pub lacking : (threads : List (List Command)) (thread number n : ℕ) (e : CheckError) (ks more : List Shape) (text rest : List ℕ) (ls : List (List ℕ)) (m : ℕ) → Goes threads ks text n ls rest m → LacksReply thread number rest m e → FailsHowever threads (ks ++ answers thread number ∷ more) text n e
+pub lacking : (threads : List (List Command)) (thread number n : ℕ) (e : CheckError) (ks more : List Shape) (text rest : List ℕ) (ls : List (List ℕ)) (m : ℕ) → GoesOverLines threads ks text n ls rest m → LacksReply thread number rest m e → FailsHowever threads (ks ++ answers thread number ∷ more) text n e
 lacking threads thread number n (error.Fault line why.Form) ks more text rest ls m g h = λ then.
     subst (λ (js : List Shape). FailsAt threads js text n line) (sym (append_assoc ks (answers thread number ∷ more) then)) (goes_fails threads ks (answers thread number ∷ (more ++ then)) text n ls rest m line g (inl (h.0, h.1)))
 lacking threads thread number n (error.Fault line why.Turn) ks more text rest ls m g h = absurd h
@@ -149,7 +149,7 @@ if_err P (Ok x) e h p = tt
 if_err P (Err d) e h p = subst P (sym h) p
 
 -- a thread's replies, of which so many came
-pub thread_lacks : (threads : List (List Command)) (thread k count n m : ℕ) (e : CheckError) (text rest : List ℕ) (ls : List (List ℕ)) → k < count → Goes threads (thread_shapes thread 1 k) text n ls rest m → LacksReply thread (k + 1) rest m e → FailsHowever threads (thread_shapes thread 1 count) text n e
+pub thread_lacks : (threads : List (List Command)) (thread k count n m : ℕ) (e : CheckError) (text rest : List ℕ) (ls : List (List ℕ)) → k < count → GoesOverLines threads (thread_shapes thread 1 k) text n ls rest m → LacksReply thread (k + 1) rest m e → FailsHowever threads (thread_shapes thread 1 count) text n e
 thread_lacks threads thread k count n m e text rest ls lt g h =
     let j : ℕ = count - k - 1 in
     let whole : k + suc j ≡ count = omega arith in

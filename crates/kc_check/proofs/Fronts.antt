@@ -1,7 +1,7 @@
 -- Places that come, and the first that doesn't.
 use Rattle.std.proofs.Common.{◌≡◌, ℕ, suc, List, [], ◌∷◌, ◌++◌, Some, Contains, refl, sym, ap, ap₂, subst, ◌∙◌, arith}
 use Rattle.kc_history.proofs.Choice.{some_is}
-use Rattle.kc_history.specs.Order.{more}
+use Rattle.kc_history.specs.Order.{one_record_more}
 use Rattle.kc_history.specs.Records.{record_at}
 use Rattle.kc_history.specs.Text.{reply_line}
 use Rattle.kc_history.specs.declared.record.Place.{Place}
@@ -14,7 +14,7 @@ use Rattle.kc_script_runs.specs.Labels.{label}
 use Rattle.kc_script_runs.specs.Run.{IsCommit, Replays, meaning_at}
 use Rattle.kc_xt.specs.Commit.{answer_of, run_on}
 use Rattle.kc_xt.specs.Meaning.{Meaning, Outcome, retried}
-use Rattle.kc_check.specs.Faults.{InTurn, Comes, HasToWait, IsOutOfTurn, RepliesElse}
+use Rattle.kc_check.specs.Faults.{InTurn, PlacesReplayed, HasToWait, IsOutOfTurn, RepliesElse}
 
 -- ---- a list of places at one of them
 
@@ -51,19 +51,19 @@ pub record TurnAt (n : ℕ → ℕ) (front : List Place) (p : Place) (back : Lis
   pub stand : ℕ → ℕ
   pub before : InTurn n front stand
   pub next : p.index ≡ stand p.thread
-  pub rest : InTurn (more p.thread stand) back m
+  pub rest : InTurn (one_record_more p.thread stand) back m
 
 pub turns_at : (front : List Place) (p : Place) (back : List Place) (n m : ℕ → ℕ) → InTurn n (front ++ p ∷ back) m → TurnAt n front p back m
 turns_at [] p back n m h = record { stand = n; before = refl; next = h.0; rest = h.1 }
-turns_at (q ∷ front) p back n m h = let on = turns_at front p back (more q.thread n) m h.1 in record { stand = on.stand; before = (h.0, on.before); next = on.next; rest = on.rest }
+turns_at (q ∷ front) p back n m h = let on = turns_at front p back (one_record_more q.thread n) m h.1 in record { stand = on.stand; before = (h.0, on.before); next = on.next; rest = on.rest }
 
-pub turns_more : (front : List Place) (p : Place) (n m : ℕ → ℕ) → InTurn n front m → p.index ≡ m p.thread → InTurn n (front ++ p ∷ []) (more p.thread m)
-turns_more [] p n m h next = (next ∙ ap (λ (k : ℕ → ℕ). k p.thread) h, ap (more p.thread) h)
-turns_more (q ∷ front) p n m h next = (h.0, turns_more front p (more q.thread n) m h.1 next)
+pub turns_more : (front : List Place) (p : Place) (n m : ℕ → ℕ) → InTurn n front m → p.index ≡ m p.thread → InTurn n (front ++ p ∷ []) (one_record_more p.thread m)
+turns_more [] p n m h next = (next ∙ ap (λ (k : ℕ → ℕ). k p.thread) h, ap (one_record_more p.thread) h)
+turns_more (q ∷ front) p n m h next = (h.0, turns_more front p (one_record_more q.thread n) m h.1 next)
 
 pub turns_are_one : (ps : List Place) (n m k : ℕ → ℕ) → InTurn n ps m → InTurn n ps k → m ≡ k
 turns_are_one [] n m k h i = h ∙ sym i
-turns_are_one (p ∷ ps) n m k h i = turns_are_one ps (more p.thread n) m k h.1 i.1
+turns_are_one (p ∷ ps) n m k h i = turns_are_one ps (one_record_more p.thread n) m k h.1 i.1
 
 -- ---- no place that comes is wrong
 
@@ -74,14 +74,14 @@ contains_at (q ∷ front) p back = let on = contains_at front p back in (suc on.
 pub none_waits : (o : Outcome) (a : Answer) → o ≡ retried → answer_of o ≡ Some a → ⊥
 none_waits o a e h = cc (ap answer_of e)
 
-module _ (limit : ℕ) (threads : List (List Command)) (replies : List (List (List ℕ))) (first : Store) (front : List Place) (p : Place) (back : List Place) (stand : ℕ → ℕ) (e : Store) (records : List (List Record)) (comes : Comes limit threads replies first (front ++ p ∷ back) stand e records) where
+module _ (limit : ℕ) (threads : List (List Command)) (replies : List (List (List ℕ))) (first : Store) (front : List Place) (p : Place) (back : List Place) (stand : ℕ → ℕ) (e : Store) (records : List (List Record)) (comes : PlacesReplayed limit threads replies first (front ++ p ∷ back) stand e records) where
   at_it : At limit threads records first front p back e
   at_it = replays_at limit threads records front p back first e comes.replays
 
   turn_it : TurnAt (λ _. 0) front p back stand
   turn_it = turns_at front p back (λ _. 0) stand comes.turns
 
-  module _ (stand' : ℕ → ℕ) (now' : Store) (others : List (List Record)) (also : Comes limit threads replies first front stand' now' others) where
+  module _ (stand' : ℕ → ℕ) (now' : Store) (others : List (List Record)) (also : PlacesReplayed limit threads replies first front stand' now' others) where
     same_now : now' ≡ at_it.now
     same_now = (replays_are_one limit threads others records also.labelled comes.labelled front first now' at_it.now also.replays at_it.before).0
 

@@ -25,10 +25,10 @@ use Rattle.kc_check.proofs.Counting.{all_stand, legal_of, stand_full}
 use Rattle.kc_check.proofs.Padded.{padded_whole}
 use Rattle.kc_check.proofs.Shown.{held_joined}
 use Rattle.kc_check.proofs.Whole.{whole_text}
-use Rattle.kc_check.specs.Faults.{Comes, ComesWhole, FailsIn, IsLegal, StopsAt}
-use Rattle.kc_check.specs.Judged.{IsSaid, nowhere, stop_number}
+use Rattle.kc_check.specs.Faults.{PlacesReplayed, ComesWhole, FailsIn, IsLegalText, StopsAt}
+use Rattle.kc_check.specs.Judged.{PartsAreSaid, no_place, stop_number}
 use Rattle.kc_check.specs.Orders.{DiffersAt, IsLegalList}
-use Rattle.kc_check.specs.Parts.{IsPlace, Parts, joined, parts_text, place_number, places_in, reply_number}
+use Rattle.kc_check.specs.Parts.{IsThreadPlace, Parts, joined_lines, parts_text, place_number, places_in, reply_number}
 use Rattle.kc_check.specs.Replays.{HaveRoom, all_kept, all_padded, commands_of, counts, kept_list, kept_record}
 use Rattle.kc_check.specs.Shown.{UnlikeAt, held_lines}
 use Rattle.kc_check.specs.Walks.{ComesKept, StopsFor}
@@ -61,7 +61,7 @@ pub stop_fails : (s : Script) (parts : Parts) (index line : ℕ) (w : CheckWhy) 
 stop_fails s parts index line why.Form h e = h
 stop_fails s parts index line why.Turn (p, front, stops, is) e = (p, front, stops, e ∙ ap (place_number s.threads) (sym is))
 stop_fails s parts index line why.Waits (p, front, stops, is) e = (p, front, stops, e ∙ ap (place_number s.threads) (sym is))
-stop_fails s parts index line why.Reply (p, front, stops, is) e = (p, front, stops, e ∙ ap (reply_number s.threads) (ap (λ (ps : List Place). get_or ps index nowhere) stops.splits ∙ ap (λ (i : ℕ). get_or (front ++ p ∷ stops.back) i nowhere) (sym is) ∙ at_front front p stops.back nowhere))
+stop_fails s parts index line why.Reply (p, front, stops, is) e = (p, front, stops, e ∙ ap (reply_number s.threads) (ap (λ (ps : List Place). get_or ps index no_place) stops.splits ∙ ap (λ (i : ℕ). get_or (front ++ p ∷ stops.back) i no_place) (sym is) ∙ at_front front p stops.back no_place))
 stop_fails s parts index line why.Order h e = absurd h
 stop_fails s parts index line why.State h e = absurd h
 
@@ -77,7 +77,7 @@ few_places threads few short =
     each (v ∷ vs) h (suc k) d lt = each vs (λ j e below. h (suc j) e (omega arith)) k d (omega arith)
 
 -- places that all come are a legal list
-pub comes_legal : (s : Script) (parts : Parts) (last : Store) (records : List (List Record)) → IsSaid s parts → ComesWhole s parts last records → IsLegalList (footprint_at records) parts.places
+pub comes_legal : (s : Script) (parts : Parts) (last : Store) (records : List (List Record)) → PartsAreSaid s parts → ComesWhole s parts last records → IsLegalList (footprint_at records) parts.places
 comes_legal s parts last records said whole =
     let none = all_stand s.threads records whole.comes.labelled parts.places whole.stand said.places whole.comes.turns said.count in
     record { opening = opening_store s; opens = opened_zero (opening_values s); ending = last; legal = legal_of s.limit s.threads records (λ _. 0) whole.stand (opening_store s) last parts.places whole.comes.turns none whole.comes.replays }
@@ -143,26 +143,26 @@ module _ (s : Script) (parts : Parts) (limit : ℕ) (limited : limit ≡ s.limit
       let four : StopsFor s.limit s.threads parts.replies (opening_store s) parts.places index w = subst (λ (x : Store). StopsFor s.limit s.threads parts.replies x parts.places index w) h three in
       stop_fails s parts index line w four (is ∙ ap (λ (x : List (List Command)). stop_number x again index w) o ∙ ap (λ (x : List Place). stop_number s.threads x index w) a)
 
-  given_whole : (last : Store) (stand : ℕ → ℕ) (records : List (List Record)) → Comes limit threads replies first places stand last records → ComesWhole s parts last records
+  given_whole : (last : Store) (stand : ℕ → ℕ) (records : List (List Record)) → PlacesReplayed limit threads replies first places stand last records → ComesWhole s parts last records
   given_whole last stand records comes =
-      let zero : Comes s.limit threads replies first places stand last records = subst (λ (x : ℕ). Comes x threads replies first places stand last records) limited comes in
-      let one : Comes s.limit s.threads replies first places stand last records = subst (λ (x : List (List Command)). Comes s.limit x replies first places stand last records) e zero in
-      let two : Comes s.limit s.threads parts.replies first places stand last records = subst (λ (x : List (List (List ℕ))). Comes s.limit s.threads x first places stand last records) f one in
-      let three : Comes s.limit s.threads parts.replies first parts.places stand last records = subst (λ (x : List Place). Comes s.limit s.threads parts.replies first x stand last records) g two in
-      record { stand = stand; comes = subst (λ (x : Store). Comes s.limit s.threads parts.replies x parts.places stand last records) h three }
+      let zero : PlacesReplayed s.limit threads replies first places stand last records = subst (λ (x : ℕ). PlacesReplayed x threads replies first places stand last records) limited comes in
+      let one : PlacesReplayed s.limit s.threads replies first places stand last records = subst (λ (x : List (List Command)). PlacesReplayed s.limit x replies first places stand last records) e zero in
+      let two : PlacesReplayed s.limit s.threads parts.replies first places stand last records = subst (λ (x : List (List (List ℕ))). PlacesReplayed s.limit s.threads x first places stand last records) f one in
+      let three : PlacesReplayed s.limit s.threads parts.replies first parts.places stand last records = subst (λ (x : List Place). PlacesReplayed s.limit s.threads parts.replies first x stand last records) g two in
+      record { stand = stand; comes = subst (λ (x : Store). PlacesReplayed s.limit s.threads parts.replies x parts.places stand last records) h three }
 
   -- where all places come, all records were made
-  pub given_comes : (last : Store) (rs : List RecordsValue) → IsSaid s parts → ComesKept limit threads replies first places last rs → Came s parts last rs
+  pub given_comes : (last : Store) (rs : List RecordsValue) → PartsAreSaid s parts → ComesKept limit threads replies first places last rs → Came s parts last rs
   given_comes last rs said k =
       let vs : List RecordsValue = k.whole in
-      let each : All (IsPlace threads) places = subst (λ (x : List (List Command)). All (IsPlace x) places) (sym e) (subst (All (IsPlace s.threads)) (sym g) said.places) in
+      let each : All (IsThreadPlace threads) places = subst (λ (x : List (List Command)). All (IsThreadPlace x) places) (sym e) (subst (All (IsThreadPlace s.threads)) (sym g) said.places) in
       let count : length places ≡ places_in threads = ap length g ∙ said.count ∙ ap places_in (sym e) in
       let all = stand_full threads places (counts (lists_of vs)) each k.comes.turns count in
       let whole : all_padded 1 threads (lists_of vs) ≡ lists_of vs = padded_whole limit 1 threads vs k.room all in
       let same : footprint_at (lists_of vs) ≡ footprint_at (lists_of rs) = prints_kept vs ∙ ap (λ (xs : List RecordsValue). footprint_at (lists_of xs)) (sym k.kept) in
       record {
         records = lists_of vs;
-        comes = given_whole last (counts (lists_of vs)) (lists_of vs) (subst (λ (x : List (List Record)). Comes limit threads replies first places (counts (lists_of vs)) last x) whole k.comes);
+        comes = given_whole last (counts (lists_of vs)) (lists_of vs) (subst (λ (x : List (List Record)). PlacesReplayed limit threads replies first places (counts (lists_of vs)) last x) whole k.comes);
         same = same;
         made = subst AreWellMade (ap footprint_at whole ∙ same) k.made;
         counted = ap records_in k.kept ∙ records_kept vs ∙ records_counted limit 1 threads vs k.room all ∙ ap places_in e;
@@ -185,5 +185,5 @@ unlike_within lines names m index u = subst (λ (ls : List (List ℕ)). index < 
     before_back [] p back = omega arith
     before_back (q ∷ front) p back = let h = before_back front p back in omega arith
 
-pub judged_text : (s : Script) (parts : Parts) (last : Store) (rs : List RecordsValue) → LieFrom 1 s.objects → ((t : ℕ) → CommandsAreOn s.objects (slice_index_or s.threads t [])) → IsSaid s parts → (came : Came s parts last rs) → IsCanonical (footprint_at came.records) parts.places → parts.state ≡ held_lines s.objects (values last) → IsLegal s (parts_text s.threads parts)
-judged_text s parts last rs lie on said came canonical held = record { records = came.records; is = whole_text s parts last came.records came.comes canonical lie on said.many said.places (ap joined held ∙ held_joined s.objects (values last)) }
+pub judged_text : (s : Script) (parts : Parts) (last : Store) (rs : List RecordsValue) → LieFrom 1 s.objects → ((t : ℕ) → CommandsAreOn s.objects (slice_index_or s.threads t [])) → PartsAreSaid s parts → (came : Came s parts last rs) → IsCanonical (footprint_at came.records) parts.places → parts.state ≡ held_lines s.objects (values last) → IsLegalText s (parts_text s.threads parts)
+judged_text s parts last rs lie on said came canonical held = record { records = came.records; is = whole_text s parts last came.records came.comes canonical lie on said.many said.places (ap joined_lines held ∙ held_joined s.objects (values last)) }

@@ -10,7 +10,7 @@ use Rattle.kc_check.proofs.Spaced.{held_is_line}
 use Rattle.kc_check.proofs.Unique.{line_one}
 use Rattle.kc_check.specs.Forms.{AreShaped, FailsAt, HasShape, Shape, just, place, replies_shapes, shapes, thread_shapes}
 use Rattle.kc_check.specs.Laid.{AreFew, IsLine}
-use Rattle.kc_check.specs.Parts.{joined, places_in}
+use Rattle.kc_check.specs.Parts.{joined_lines, places_in}
 use Rattle.kc_check.specs.Reads.{HaveNames}
 
 module _ (threads : List (List Command)) where
@@ -24,13 +24,13 @@ module _ (threads : List (List Command)) where
   of_both (k ∷ ks) js h i = (h.0, of_both ks js h.1 i)
 
   -- lines that come are not missed
-  pub misses_none : (ks : List Shape) (lines : List (List ℕ)) (text : List ℕ) (n line : ℕ) → AreOfLines ks → AreShaped threads ks lines → text ≡ joined lines → FailsAt threads ks text n line → ⊥
+  pub misses_none : (ks : List Shape) (lines : List (List ℕ)) (text : List ℕ) (n line : ℕ) → AreOfLines ks → AreShaped threads ks lines → text ≡ joined_lines lines → FailsAt threads ks text n line → ⊥
   misses_none [] [] text n line of shaped e f = f.0 e
   misses_none [] (l ∷ lines) text n line of shaped e f = shaped
   misses_none (k ∷ ks) [] text n line of shaped e f = shaped
-  misses_none (k ∷ ks) (l ∷ lines) text n line of shaped e (inl f) = f.0 l (joined lines) shaped.0 e
+  misses_none (k ∷ ks) (l ∷ lines) text n line of shaped e (inl f) = f.0 l (joined_lines lines) shaped.0 e
   misses_none (k ∷ ks) (l ∷ lines) text n line of shaped e (inr (first, rest, shape, is, fails)) =
-      let same = line_one first l rest (joined lines) (of.0 first shape) (of.0 l shaped.0) (sym is ∙ e) in
+      let same = line_one first l rest (joined_lines lines) (of.0 first shape) (of.0 l shaped.0) (sym is ∙ e) in
       misses_none ks lines rest (n + 1) line of.1 shaped.1 same.1 fails
 
   -- the first line that is missed is one

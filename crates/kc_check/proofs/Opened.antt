@@ -26,11 +26,11 @@ use Rattle.kc_script_bundle.specs.declared.operation.Command.{Command}
 use Rattle.kc_script_lines.specs.Words.{is_letter, is_name, is_name_byte, is_within}
 use Rattle.kc_script_runs.proofs.Replayed.{opened_zero}
 use Rattle.kc_check.specs.Forms.{AllReplies, AreHeld, AreReplies, IsFormed}
-use Rattle.kc_check.specs.Judged.{IsSaid, IsSound}
-use Rattle.kc_check.specs.Laid.{Lacks}
+use Rattle.kc_check.specs.Judged.{PartsAreSaid, IsReadyToReplay}
+use Rattle.kc_check.specs.Laid.{ByteIsMissing}
 use Rattle.kc_check.specs.Parts.{AsMany, Parts, commands_in, places_in}
 use Rattle.kc_check.specs.Reads.{HaveNames}
-use Rattle.kc_check.specs.Replays.{AllCanAsk, HasRoom, HaveRoom, commands_of}
+use Rattle.kc_check.specs.Replays.{AllCanAsk, HasRoomForRecords, HaveRoom, commands_of}
 
 -- ---- room
 
@@ -40,8 +40,8 @@ no_room limit vs rs e = subst (HaveRoom limit 1 []) (sym e) tt
 pub no_records : (rs : List RecordsValue) → rs ≡ [] → All (λ (v : RecordsValue). v.items ≡ []) rs
 no_records rs e = subst (All (λ (v : RecordsValue). v.items ≡ [])) (sym e) (λ i d lt. absurd (omega arith))
 
-room_push : (limit j k : ℕ) (ts : List (List Command)) (rs : List RecordsValue) (cs : List Command) (r : RecordsValue) → j + length ts ≡ k → HaveRoom limit j ts rs → HasRoom limit k cs r → HaveRoom limit j (ts ++ cs ∷ []) (rs ++ r ∷ [])
-room_push limit j k [] [] cs r e h room = (subst (λ (i : ℕ). HasRoom limit i cs r) (let f : k ≡ j = omega (arith, e) in f) room, tt)
+room_push : (limit j k : ℕ) (ts : List (List Command)) (rs : List RecordsValue) (cs : List Command) (r : RecordsValue) → j + length ts ≡ k → HaveRoom limit j ts rs → HasRoomForRecords limit k cs r → HaveRoom limit j (ts ++ cs ∷ []) (rs ++ r ∷ [])
+room_push limit j k [] [] cs r e h room = (subst (λ (i : ℕ). HasRoomForRecords limit i cs r) (let f : k ≡ j = omega (arith, e) in f) room, tt)
 room_push limit j k [] (x ∷ rs) cs r e h room = absurd h
 room_push limit j k (t ∷ ts) [] cs r e h room = absurd h
 room_push limit j k (t ∷ ts) (x ∷ rs) cs r e h room = (h.0, room_push limit (j + 1) k ts rs cs r (omega (arith, e)) h.1 room)
@@ -54,8 +54,8 @@ pub room_next : (limit : ℕ) (vs : List (Vec Command Global)) (i n : ℕ) (v : 
 room_next limit vs i n v r rs others lt at long h made pushed =
     let fresh : RecordsValue = record { items = []; spare = 0; bare = n + 1; limit = limit } in
     let k : ℕ = 1 + length (commands_of (take i vs)) in
-    let one : HasRoom limit k v.items fresh = (tt, omega (arith, long), refl, refl) in
-    let room : HasRoom limit k v.items r = subst (HasRoom limit k v.items) (sym made) one in
+    let one : HasRoomForRecords limit k v.items fresh = (tt, omega (arith, long), refl, refl) in
+    let room : HasRoomForRecords limit k v.items r = subst (HasRoomForRecords limit k v.items) (sym made) one in
     let more = room_push limit 1 k (commands_of (take i vs)) rs v.items r refl h room in
     let taken : commands_of (take i vs) ++ v.items ∷ [] ≡ commands_of (take (i + 1) vs) = sym (ap commands_of (take_more vs i v lt) ∙ mapped_more (take i vs) (get_or vs i v) ∙ ap (λ (w : Vec Command Global). commands_of (take i vs) ++ w.items ∷ []) (sym at)) in
     subst (HaveRoom limit 1 (commands_of (take (i + 1) vs))) (sym pushed) (subst (λ (ts : List (List Command)). HaveRoom limit 1 ts (rs ++ r ∷ [])) taken more)
@@ -120,7 +120,7 @@ module _ (b : Bundle) (bytes : List ℕ) (spells : Spells bytes (script_of b)) w
   pub values_few : length (opening_values (script_of b)) ≤ 65536
   values_few = let a = values_long (script_of b) in let e = (spelled_lies spells).within in omega (arith, a, e)
 
-  pub sound_of : (values : List ℕ) (cells : List Cell) (records : List RecordsValue) → values ≡ opening_values (script_of b) → cells ≡ opened values → HaveRoom (script_of b).limit 1 (script_of b).threads records → All (λ (v : RecordsValue). v.items ≡ []) records → IsSound (script_of b) b.threads.items cells records
+  pub sound_of : (values : List ℕ) (cells : List Cell) (records : List RecordsValue) → values ≡ opening_values (script_of b) → cells ≡ opened values → HaveRoom (script_of b).limit 1 (script_of b).threads records → All (λ (v : RecordsValue). v.items ≡ []) records → IsReadyToReplay (script_of b) b.threads.items cells records
   sound_of values cells records valued stored room empty =
       let is : cells ≡ opened (opening_values (script_of b)) = stored ∙ ap opened valued in
       let size : length cells ≡ next_from 1 (script_of b).objects = ap length is ∙ opened_length (opening_values (script_of b)) ∙ values_long (script_of b) in
@@ -154,7 +154,7 @@ objects_few {bytes} {s} p = let a = objects_in 1 s.objects (spelled_sized p) in 
 
 -- ---- names
 
-no_newline : (w : List ℕ) → list_all is_name_byte w ≡ true → Lacks 10 w
+no_newline : (w : List ℕ) → list_all is_name_byte w ≡ true → ByteIsMissing 10 w
 no_newline [] h = tt
 no_newline (b ∷ w) h = let p = both (is_name_byte b) (list_all is_name_byte w) h in (far b p.0, no_newline w p.1)
   where
@@ -165,7 +165,7 @@ no_newline (b ∷ w) h = let p = both (is_name_byte b) (list_all is_name_byte w)
     far : (b : ℕ) → is_name_byte b ≡ true → b ≢ 10
     far b e same = (grind (arith, nat_tests, e, same))
 
-name_lacks : (w : List ℕ) → is_name w ≡ true → Lacks 10 w
+name_lacks : (w : List ℕ) → is_name w ≡ true → ByteIsMissing 10 w
 name_lacks w h = no_newline w (last (is_within 1 32 (length w)) (is_letter (slice_index_or w 0 0)) (list_all is_name_byte w) h)
   where
     last : (x y z : Bool) → (x && y && z) ≡ true → z ≡ true
@@ -177,7 +177,7 @@ declared_named : {version : Version} (names all : Names) (lines : List Line) →
 declared_named names all lines Declare.none h = h
 declared_named names all _ (Declare.one {lines = lines} line entry known e rest) h = declared_named (names ++ entry ∷ []) all lines rest (push names entry h (name_lacks entry.0 e.1))
   where
-    push : (xs : Names) (x : List ℕ × Object) → HaveNames xs → Lacks 10 x.0 → HaveNames (xs ++ x ∷ [])
+    push : (xs : Names) (x : List ℕ × Object) → HaveNames xs → ByteIsMissing 10 x.0 → HaveNames (xs ++ x ∷ [])
     push [] x k l zero d lt = l
     push [] x k l (suc i) d lt = absurd (omega arith)
     push (y ∷ xs) x k l zero d lt = k zero y (omega arith)
@@ -206,7 +206,7 @@ held_long [] (l ∷ ls) h = absurd h
 held_long (e ∷ names) [] h = absurd h
 held_long (e ∷ names) (l ∷ ls) h = ap suc (held_long names ls h.1)
 
-pub said_of : (s : Script) (text : List ℕ) (parts : Parts) → length s.objects ≤ 65536 → IsFormed s text parts → IsSaid s parts
+pub said_of : (s : Script) (text : List ℕ) (parts : Parts) → length s.objects ≤ 65536 → IsFormed s text parts → PartsAreSaid s parts
 said_of s text parts few formed =
     let replies = as_many 1 s.threads parts.replies formed.replies in
     let objects = held_long s.objects parts.state formed.state in

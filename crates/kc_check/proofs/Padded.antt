@@ -8,14 +8,14 @@ use Rattle.kc_history.proofs.Choice.{some_is}
 use Rattle.kc_history.proofs.Ready.{same_or, more_same, more_other}
 use Rattle.kc_history.specs.Ends.{AreWellMade, CanStand}
 use Rattle.kc_history.specs.Kept.{print}
-use Rattle.kc_history.specs.Order.{more}
+use Rattle.kc_history.specs.Order.{one_record_more}
 use Rattle.kc_history.specs.Records.{footprint_at, lists_of}
 use Rattle.kc_history.specs.RecordsValue.{RecordsValue}
 use Rattle.kc_history.specs.declared.record.Record.{Record}
 use Rattle.kc_model.specs.declared.footprint.Footprint.{Footprint}
 use Rattle.kc_script_bundle.specs.declared.operation.Command.{Command}
-use Rattle.kc_script_runs.specs.Labels.{AreThreads, Label, label, labels}
-use Rattle.kc_check.specs.Replays.{AreFirst, HasRoom, HaveRoom, all_padded, blank, counts, padded}
+use Rattle.kc_script_runs.specs.Labels.{ThreadsHaveRecords, Label, label, labels}
+use Rattle.kc_check.specs.Replays.{AreFirst, HasRoomForRecords, HaveRoom, all_padded, blank, counts, padded}
 
 -- ---- one thread
 
@@ -48,7 +48,7 @@ pub padded_more : (thread : ℕ) (cs : List Command) (rs : List Record) (r : Rec
 unfolding blanks
 padded_more thread cs rs r l h at = filled_in (labels thread 1 cs) rs r l h at
 
-pub room_more : (limit thread : ℕ) (cs : List Command) (v w : RecordsValue) (r : Record) (l : Label) → HasRoom limit thread cs v → 0 < v.bare → slice_get (labels thread 1 cs) (length v.items) ≡ Some l → label r ≡ l → w.items ≡ v.items ++ r ∷ [] → w.bare ≡ v.bare - 1 → w.limit ≡ v.limit → w.spare ≡ v.spare → HasRoom limit thread cs w
+pub room_more : (limit thread : ℕ) (cs : List Command) (v w : RecordsValue) (r : Record) (l : Label) → HasRoomForRecords limit thread cs v → 0 < v.bare → slice_get (labels thread 1 cs) (length v.items) ≡ Some l → label r ≡ l → w.items ≡ v.items ++ r ∷ [] → w.bare ≡ v.bare - 1 → w.limit ≡ v.limit → w.spare ≡ v.spare → HasRoomForRecords limit thread cs w
 room_more limit thread cs v w r l h some at is items bare same spare =
     let long : length w.items ≡ length v.items + 1 = ap length items ∙ length_more v.items r in
     let count = h.1 in (
@@ -64,7 +64,7 @@ room_more limit thread cs v w r l h some at is items bare same spare =
 
 -- ---- all threads
 
-pub padded_threads : (limit j : ℕ) (threads : List (List Command)) (vs : List RecordsValue) → HaveRoom limit j threads vs → AreThreads j threads (all_padded j threads (lists_of vs))
+pub padded_threads : (limit j : ℕ) (threads : List (List Command)) (vs : List RecordsValue) → HaveRoom limit j threads vs → ThreadsHaveRecords j threads (all_padded j threads (lists_of vs))
 unfolding blanks
 padded_threads limit j [] [] h = tt
 padded_threads limit j [] (v ∷ vs) h = absurd h
@@ -78,21 +78,21 @@ as_many limit j (cs ∷ threads) [] h = absurd h
 as_many limit j (cs ∷ threads) (v ∷ vs) h = ap suc (as_many limit (j + 1) threads vs h.1)
 
 -- the room of one thread
-pub room_at : (limit j : ℕ) (threads : List (List Command)) (vs : List RecordsValue) (t k : ℕ) (v : RecordsValue) → HaveRoom limit j threads vs → t < length threads → j + t ≡ k → v ≡ get_or vs t v → HasRoom limit k (slice_index_or threads t []) v
+pub room_at : (limit j : ℕ) (threads : List (List Command)) (vs : List RecordsValue) (t k : ℕ) (v : RecordsValue) → HaveRoom limit j threads vs → t < length threads → j + t ≡ k → v ≡ get_or vs t v → HasRoomForRecords limit k (slice_index_or threads t []) v
 room_at limit j [] vs t k v h lt is at = absurd (omega arith)
 room_at limit j (cs ∷ threads) [] t k v h lt is at = absurd h
 room_at limit j (cs ∷ threads) (w ∷ vs) zero k v h lt is at =
     let e : j ≡ k = omega (arith, is) in
-    subst (λ (i : ℕ). HasRoom limit i cs v) e (subst (HasRoom limit j cs) (sym at) h.0)
+    subst (λ (i : ℕ). HasRoomForRecords limit i cs v) e (subst (HasRoomForRecords limit j cs) (sym at) h.0)
 room_at limit j (cs ∷ threads) (w ∷ vs) (suc t) k v h lt is at = room_at limit (j + 1) threads vs t k v h.1 (omega arith) (omega (arith, is)) at
 
-pub room_set : (limit j : ℕ) (threads : List (List Command)) (vs : List RecordsValue) (t k : ℕ) (w : RecordsValue) → HaveRoom limit j threads vs → j + t ≡ k → HasRoom limit k (slice_index_or threads t []) w → HaveRoom limit j threads (set vs t w)
+pub room_set : (limit j : ℕ) (threads : List (List Command)) (vs : List RecordsValue) (t k : ℕ) (w : RecordsValue) → HaveRoom limit j threads vs → j + t ≡ k → HasRoomForRecords limit k (slice_index_or threads t []) w → HaveRoom limit j threads (set vs t w)
 room_set limit j [] [] t k w h is room = h
 room_set limit j [] (v ∷ vs) t k w h is room = absurd h
 room_set limit j (cs ∷ threads) [] t k w h is room = absurd h
 room_set limit j (cs ∷ threads) (v ∷ vs) zero k w h is room =
     let e : k ≡ j = omega (arith, is) in
-    (subst (λ (i : ℕ). HasRoom limit i cs w) e room, h.1)
+    (subst (λ (i : ℕ). HasRoomForRecords limit i cs w) e room, h.1)
 room_set limit j (cs ∷ threads) (v ∷ vs) (suc t) k w h is room = (h.0, room_set limit (j + 1) threads vs t k w h.1 (omega (arith, is)) room)
 
 pub padded_row : (j : ℕ) (threads : List (List Command)) (vs : List RecordsValue) (t k : ℕ) (v : RecordsValue) → t < length threads → t < length vs → j + t ≡ k → v ≡ get_or vs t v → slice_index_or (all_padded j threads (lists_of vs)) t [] ≡ padded k (slice_index_or threads t []) v.items
@@ -136,9 +136,9 @@ padded_whole limit j (cs ∷ threads) (v ∷ vs) h full =
 
 -- ---- how many there are
 
-pub counts_set : (vs : List RecordsValue) (t : ℕ) (v w : RecordsValue) → t < length vs → v ≡ get_or vs t v → length w.items ≡ length v.items + 1 → counts (lists_of (set vs t w)) ≡ more t (counts (lists_of vs))
+pub counts_set : (vs : List RecordsValue) (t : ℕ) (v w : RecordsValue) → t < length vs → v ≡ get_or vs t v → length w.items ≡ length v.items + 1 → counts (lists_of (set vs t w)) ≡ one_record_more t (counts (lists_of vs))
 counts_set vs t v w lt at long = fun_ext (λ u. elim (same_or u t) [
-  | inl e ↦ ap (counts (lists_of (set vs t w))) e ∙ here vs t lt ∙ long ∙ ap (λ (n : ℕ). n + 1) (sym (was vs t v lt at)) ∙ sym (more_same t (counts (lists_of vs)) t refl) ∙ ap (more t (counts (lists_of vs))) (sym e)
+  | inl e ↦ ap (counts (lists_of (set vs t w))) e ∙ here vs t lt ∙ long ∙ ap (λ (n : ℕ). n + 1) (sym (was vs t v lt at)) ∙ sym (more_same t (counts (lists_of vs)) t refl) ∙ ap (one_record_more t (counts (lists_of vs))) (sym e)
   | inr ne ↦ other vs t u ne ∙ sym (more_other t (counts (lists_of vs)) u ne)
 ])
   where

@@ -13,9 +13,9 @@ use Rattle.kc_script_bundle.specs.declared.object.Object.{Object}
 use Rattle.kc_script_bundle.specs.declared.operation.Command.{Command}
 use Rattle.kc_check.proofs.Forming.{goes_fails, goes_more, goes_none, lacks_by_test}
 use Rattle.kc_check.proofs.Walks.{parted, took}
-use Rattle.kc_check.specs.Forms.{AllReplies, AreHeld, AreReplies, AreShaped, FailsAt, Goes, HasShape, IsFormed, IsReply, LacksLine, Shape, flat, holds, just, place, replies_shapes, thread_shapes}
+use Rattle.kc_check.specs.Forms.{AllReplies, AreHeld, AreReplies, AreShaped, FailsAt, GoesOverLines, HasShape, IsFormed, IsReply, LacksLine, Shape, flat, holds, just, place, replies_shapes, thread_shapes}
 use Rattle.kc_check.specs.Laid.{AreFew, IsLine}
-use Rattle.kc_check.specs.Parts.{IsPlace, joined, place_text, places_in, places_text, replies_text}
+use Rattle.kc_check.specs.Parts.{IsThreadPlace, joined_lines, place_text, places_in, places_text, replies_text}
 use Rattle.kc_check.specs.Reads.{FailsForm, FailsHowever, FailsSo, LacksHere, LacksReply}
 use Rattle.kc_check.specs.Replays.{commands_of}
 use Rattle.kc_check.specs.Walks.{lines_at, lines_in, now_of}
@@ -26,9 +26,9 @@ use Rattle.kc_check.specs.declared.error.CheckWhy.TheVariants as why
 -- ---- a part behind another
 
 module _ (threads : List (List Command)) where
-  pub joined_append : (ls ms : List (List ℕ)) → joined (ls ++ ms) ≡ joined ls ++ joined ms
+  pub joined_append : (ls ms : List (List ℕ)) → joined_lines (ls ++ ms) ≡ joined_lines ls ++ joined_lines ms
   joined_append [] ms = refl
-  joined_append (l ∷ ls) ms = ap (λ (xs : List ℕ). l ++ xs) (joined_append ls ms) ∙ sym (append_assoc l (joined ls) (joined ms))
+  joined_append (l ∷ ls) ms = ap (λ (xs : List ℕ). l ++ xs) (joined_append ls ms) ∙ sym (append_assoc l (joined_lines ls) (joined_lines ms))
 
   pub shaped_append : (ks js : List Shape) (ls ms : List (List ℕ)) → AreShaped threads ks ls → AreShaped threads js ms → AreShaped threads (ks ++ js) (ls ++ ms)
   shaped_append [] js [] ms h k = k
@@ -40,19 +40,19 @@ module _ (threads : List (List Command)) where
   long_append [] ms = omega arith
   long_append (l ∷ ls) ms = let h = long_append ls ms in omega (arith, h)
 
-  pub goes_on : (ks js : List Shape) (text : List ℕ) (n : ℕ) (ls ms : List (List ℕ)) (rest : List ℕ) (m : ℕ) (last : List ℕ) (o : ℕ) → Goes threads ks text n ls rest m → Goes threads js rest m ms last o → Goes threads (ks ++ js) text n (ls ++ ms) last o
+  pub goes_on : (ks js : List Shape) (text : List ℕ) (n : ℕ) (ls ms : List (List ℕ)) (rest : List ℕ) (m : ℕ) (last : List ℕ) (o : ℕ) → GoesOverLines threads ks text n ls rest m → GoesOverLines threads js rest m ms last o → GoesOverLines threads (ks ++ js) text n (ls ++ ms) last o
   goes_on ks js text n ls ms rest m last o g h = record {
     shaped = shaped_append ks js ls ms g.shaped h.shaped;
-    spelled = g.spelled ∙ ap (λ (xs : List ℕ). joined ls ++ xs) h.spelled ∙ sym (append_assoc (joined ls) (joined ms) last) ∙ ap (λ (xs : List ℕ). xs ++ last) (sym (joined_append ls ms));
+    spelled = g.spelled ∙ ap (λ (xs : List ℕ). joined_lines ls ++ xs) h.spelled ∙ sym (append_assoc (joined_lines ls) (joined_lines ms) last) ∙ ap (λ (xs : List ℕ). xs ++ last) (sym (joined_append ls ms));
     number = (let a = g.number in let b = h.number in let c = long_append ls ms in omega (arith, a, b, c));
   }
 
   -- one line
-  pub goes_one : (k : Shape) (text : List ℕ) (n : ℕ) (l rest : List ℕ) (m : ℕ) → HasShape threads k l → text ≡ l ++ rest → m ≡ n + 1 → Goes threads (k ∷ []) text n (l ∷ []) rest m
+  pub goes_one : (k : Shape) (text : List ℕ) (n : ℕ) (l rest : List ℕ) (m : ℕ) → HasShape threads k l → text ≡ l ++ rest → m ≡ n + 1 → GoesOverLines threads (k ∷ []) text n (l ∷ []) rest m
   goes_one k text n l rest m s e f = goes_more threads [] k text n [] text n l rest m (goes_none threads text n) s e f
 
   -- what fails behind a part fails behind both
-  pub however_on : (ks js : List Shape) (text : List ℕ) (n : ℕ) (ls : List (List ℕ)) (rest : List ℕ) (m : ℕ) (e : CheckError) → Goes threads ks text n ls rest m → FailsHowever threads js rest m e → FailsHowever threads (ks ++ js) text n e
+  pub however_on : (ks js : List Shape) (text : List ℕ) (n : ℕ) (ls : List (List ℕ)) (rest : List ℕ) (m : ℕ) (e : CheckError) → GoesOverLines threads ks text n ls rest m → FailsHowever threads js rest m e → FailsHowever threads (ks ++ js) text n e
   however_on ks js text n ls rest m (error.Fault line why.Form) g h = λ more. subst (λ (xs : List Shape). FailsAt threads xs text n line) (sym (append_assoc ks js more)) (goes_fails threads ks (js ++ more) text n ls rest m line g (h more))
   however_on ks js text n ls rest m (error.Fault line why.Turn) g h = absurd h
   however_on ks js text n ls rest m (error.Fault line why.Waits) g h = absurd h
@@ -187,14 +187,14 @@ all_more j (t ∷ threads) (x ∷ rs) cs ls k h e r = (h.0, all_more (j + 1) thr
 
 -- so many threads have been read
 pub record ReadTo (vs : List (Vec Command Global)) (t : ℕ) (text : List ℕ) (n : ℕ) (replies : List (List (List ℕ))) (rest : List ℕ) (m : ℕ) : Type 0 where
-  pub goes : Goes (commands_of vs) (replies_shapes 1 (commands_of (take t vs))) text n (flat replies) rest m
+  pub goes : GoesOverLines (commands_of vs) (replies_shapes 1 (commands_of (take t vs))) text n (flat replies) rest m
   pub replies_are : AllReplies 1 (commands_of (take t vs)) replies
 
 pub read_none : (vs : List (Vec Command Global)) (text : List ℕ) (n : ℕ) → ReadTo vs 0 text n [] text n
 read_none vs text n = record { goes = goes_none (commands_of vs) text n; replies_are = tt }
 
 pub read_more : (whole : List ℕ) (vs : List (Vec Command Global)) (t k : ℕ) (v : Vec Command Global) (text : List ℕ) (n : ℕ) (rs others : List (Vec ℕ Global)) (lines : Vec ℕ Global) (rest : List ℕ) (m : ℕ) (next : List ℕ) (o : ℕ) → t < length vs → v ≡ get_or vs t v → k ≡ length v.items → ReadTo vs t text n (lines_in whole rs) rest m
-    → ((threads : List (List Command)) → Goes threads (thread_shapes (t + 1) 1 k) rest m (lines_at whole lines.items) next o) → others ≡ rs ++ lines ∷ [] → ReadTo vs (t + 1) text n (lines_in whole others) next o
+    → ((threads : List (List Command)) → GoesOverLines threads (thread_shapes (t + 1) 1 k) rest m (lines_at whole lines.items) next o) → others ≡ rs ++ lines ∷ [] → ReadTo vs (t + 1) text n (lines_in whole others) next o
 read_more whole vs t k v text n rs others lines rest m next o lt at long read goes pushed =
     let threads : List (List Command) = commands_of vs in
     let on = goes_on threads (replies_shapes 1 (commands_of (take t vs))) (thread_shapes (t + 1) 1 k) text n (flat (lines_in whole rs)) (lines_at whole lines.items) rest m next o read.goes (goes threads) in
@@ -206,7 +206,7 @@ read_more whole vs t k v text n rs others lines rest m next o lt at long read go
     let all = all_more 1 (commands_of (take t vs)) (lines_in whole rs) (get_or vs t v).items (lines_at whole lines.items) (t + 1) read.replies_are number (replies_of threads (t + 1) 1 (get_or vs t v).items k (lines_at whole lines.items) long' (goes threads).shaped) in
     let taken : commands_of (take t vs) ++ (get_or vs t v).items ∷ [] ≡ commands_of (take (t + 1) vs) = sym (ap commands_of (take_more vs t v lt) ∙ mapped (take t vs) (get_or vs t v)) in
     record {
-      goes = subst (λ (ls : List (List ℕ)). Goes threads (replies_shapes 1 (commands_of (take (t + 1) vs))) text n ls next o) flat_is (subst (λ (ks : List Shape). Goes threads ks text n (flat (lines_in whole rs) ++ lines_at whole lines.items) next o) (sym (replies_next vs t k v lt at long)) on);
+      goes = subst (λ (ls : List (List ℕ)). GoesOverLines threads (replies_shapes 1 (commands_of (take (t + 1) vs))) text n ls next o) flat_is (subst (λ (ks : List Shape). GoesOverLines threads ks text n (flat (lines_in whole rs) ++ lines_at whole lines.items) next o) (sym (replies_next vs t k v lt at long)) on);
       replies_are = subst (λ (xs : List (List (List ℕ))). AllReplies 1 (commands_of (take (t + 1) vs)) xs) (sym lines_are) (subst (λ (ts : List (List Command)). AllReplies 1 ts (lines_in whole rs ++ lines_at whole lines.items ∷ [])) taken all);
     }
   where
@@ -222,10 +222,10 @@ read_fails vs t k v text n replies rest m e lt at long read fails =
     (however_more threads (replies_shapes 1 (commands_of (take t vs)) ++ thread_shapes (t + 1) 1 k) (replies_shapes (t + 1 + 1) (commands_of (drop (t + 1) vs))) text n e
     (however_on threads (replies_shapes 1 (commands_of (take t vs))) (thread_shapes (t + 1) 1 k) text n (flat replies) rest m e read.goes (fails threads)))
 
-pub read_whole : (vs : List (Vec Command Global)) (t : ℕ) (text : List ℕ) (n : ℕ) (replies : List (List (List ℕ))) (rest : List ℕ) (m : ℕ) → length vs ≤ t → ReadTo vs t text n replies rest m → Goes (commands_of vs) (replies_shapes 1 (commands_of vs)) text n (flat replies) rest m × AllReplies 1 (commands_of vs) replies
+pub read_whole : (vs : List (Vec Command Global)) (t : ℕ) (text : List ℕ) (n : ℕ) (replies : List (List (List ℕ))) (rest : List ℕ) (m : ℕ) → length vs ≤ t → ReadTo vs t text n replies rest m → GoesOverLines (commands_of vs) (replies_shapes 1 (commands_of vs)) text n (flat replies) rest m × AllReplies 1 (commands_of vs) replies
 read_whole vs t text n replies rest m le read =
     let whole = take_all t vs le in (
-      subst (λ (ws : List (Vec Command Global)). Goes (commands_of vs) (replies_shapes 1 (commands_of ws)) text n (flat replies) rest m) whole read.goes,
+      subst (λ (ws : List (Vec Command Global)). GoesOverLines (commands_of vs) (replies_shapes 1 (commands_of ws)) text n (flat replies) rest m) whole read.goes,
       subst (λ (ws : List (Vec Command Global)). AllReplies 1 (commands_of ws) replies) whole read.replies_are,
     )
 
@@ -253,22 +253,22 @@ all_push P (y ∷ xs) x h p zero d lt = h zero y (omega arith)
 all_push P (y ∷ xs) x h p (suc i) d lt = all_push P xs x (λ j e le. h (suc j) e (omega arith)) p i d (omega arith)
 
 pub record PlacedTo (threads : List (List Command)) (i : ℕ) (text : List ℕ) (n : ℕ) (places : List Place) (rest : List ℕ) (m : ℕ) : Type 0 where
-  pub goes : Goes threads (replicate i place) text n (map (place_text threads) places) rest m
-  pub each : All (IsPlace threads) places
+  pub goes : GoesOverLines threads (replicate i place) text n (map (place_text threads) places) rest m
+  pub each : All (IsThreadPlace threads) places
   pub count : length places ≡ i
 
 pub placed_none : (threads : List (List Command)) (text : List ℕ) (n : ℕ) → PlacedTo threads 0 text n [] text n
 placed_none threads text n = record { goes = goes_none threads text n; each = λ i d lt. absurd (omega arith); count = refl }
 
-pub placed_more : (threads : List (List Command)) (i : ℕ) (text : List ℕ) (n : ℕ) (places others : List Place) (p : Place) (rest : List ℕ) (m : ℕ) (next : List ℕ) (o : ℕ) → PlacedTo threads i text n places rest m → IsPlace threads p → rest ≡ place_text threads p ++ next → o ≡ m + 1 → others ≡ places ++ p ∷ [] → PlacedTo threads (i + 1) text n others next o
+pub placed_more : (threads : List (List Command)) (i : ℕ) (text : List ℕ) (n : ℕ) (places others : List Place) (p : Place) (rest : List ℕ) (m : ℕ) (next : List ℕ) (o : ℕ) → PlacedTo threads i text n places rest m → IsThreadPlace threads p → rest ≡ place_text threads p ++ next → o ≡ m + 1 → others ≡ places ++ p ∷ [] → PlacedTo threads (i + 1) text n others next o
 placed_more threads i text n places others p rest m next o read is e f pushed =
     let more = goes_more threads (replicate i place) place text n (map (place_text threads) places) rest m (place_text threads p) next o read.goes (record { at = p; is = is; spelled = refl }) e f in
     let lines : map (place_text threads) places ++ place_text threads p ∷ [] ≡ map (place_text threads) others = sym (ap (map (place_text threads)) pushed ∙ map_more (place_text threads) places p) in
     let long : length others ≡ length places + 1 = ap length pushed ∙ long_more places p in
     let count = read.count in
     record {
-      goes = subst (λ (ls : List (List ℕ)). Goes threads (replicate (i + 1) place) text n ls next o) lines (subst (λ (ks : List Shape). Goes threads ks text n (map (place_text threads) places ++ place_text threads p ∷ []) next o) (sym (replicate_more i)) more);
-      each = subst (All (IsPlace threads)) (sym pushed) (all_push (IsPlace threads) places p read.each is);
+      goes = subst (λ (ls : List (List ℕ)). GoesOverLines threads (replicate (i + 1) place) text n ls next o) lines (subst (λ (ks : List Shape). GoesOverLines threads ks text n (map (place_text threads) places ++ place_text threads p ∷ []) next o) (sym (replicate_more i)) more);
+      each = subst (All (IsThreadPlace threads)) (sym pushed) (all_push (IsThreadPlace threads) places p read.each is);
       count = omega (arith, long, count);
     }
   where
@@ -303,7 +303,7 @@ now_push [] line = refl
 now_push (l ∷ lines) line = ap (λ (ls : List (List ℕ)). l.now ∷ ls) (now_push lines line)
 
 pub HeldTo : Objects → ℕ → List ℕ → ℕ → List (List ℕ) → List ℕ → ℕ → Type 0
-HeldTo names i text n lines rest m = (threads : List (List Command)) → Goes threads (held_shapes (take i names)) text n lines rest m
+HeldTo names i text n lines rest m = (threads : List (List Command)) → GoesOverLines threads (held_shapes (take i names)) text n lines rest m
 
 pub held_none : (names : Objects) (text : List ℕ) (n : ℕ) → HeldTo names 0 text n [] text n
 unfolding HeldTo
@@ -314,7 +314,7 @@ unfolding HeldTo
 held_more names i entry name text n lines others line rest m next o lt at is read held e f pushed threads =
     let same : name ≡ (get_or names i entry).0 = is ∙ ap (λ (x : List ℕ × Object). x.0) (sym at) in
     let more = goes_more threads (held_shapes (take i names)) (holds (get_or names i entry).0) text n (now_of lines) rest m line.now next o (read threads) (subst (λ (x : List ℕ). HasShape threads (holds x) line.now) same held) e f in
-    subst (λ (ls : List (List ℕ)). Goes threads (held_shapes (take (i + 1) names)) text n ls next o) (sym (ap now_of pushed ∙ now_push lines line)) (subst (λ (ks : List Shape). Goes threads ks text n (now_of lines ++ line.now ∷ []) next o) (sym (held_next names i entry lt)) more)
+    subst (λ (ls : List (List ℕ)). GoesOverLines threads (held_shapes (take (i + 1) names)) text n ls next o) (sym (ap now_of pushed ∙ now_push lines line)) (subst (λ (ks : List Shape). GoesOverLines threads ks text n (now_of lines ++ line.now ∷ []) next o) (sym (held_next names i entry lt)) more)
 
 pub held_fails : (names : Objects) (i : ℕ) (entry : List ℕ × Object) (name : List ℕ) (text : List ℕ) (n : ℕ) (lines : List (List ℕ)) (rest : List ℕ) (m : ℕ) (e : CheckError) → i < length names → get_or names i entry ≡ entry → name ≡ entry.0 → HeldTo names i text n lines rest m → LacksHere [] (holds name) rest m e → (threads : List (List Command)) → FailsHowever threads (held_shapes names) text n e
 unfolding HeldTo
@@ -325,9 +325,9 @@ held_fails names i entry name text n lines rest m e lt at is read lacks threads 
     (however_more threads (held_shapes (take i names) ++ holds (get_or names i entry).0 ∷ []) (held_shapes (drop (i + 1) names)) text n e
     (however_on threads (held_shapes (take i names)) (holds (get_or names i entry).0 ∷ []) text n lines rest m e (read threads) (lacks_one threads (holds (get_or names i entry).0) rest m e lacks')))
 
-pub held_whole : (names : Objects) (i : ℕ) (text : List ℕ) (n : ℕ) (lines : List (List ℕ)) (rest : List ℕ) (m : ℕ) → length names ≤ i → HeldTo names i text n lines rest m → (threads : List (List Command)) → Goes threads (held_shapes names) text n lines rest m
+pub held_whole : (names : Objects) (i : ℕ) (text : List ℕ) (n : ℕ) (lines : List (List ℕ)) (rest : List ℕ) (m : ℕ) → length names ≤ i → HeldTo names i text n lines rest m → (threads : List (List Command)) → GoesOverLines threads (held_shapes names) text n lines rest m
 unfolding HeldTo
-held_whole names i text n lines rest m le read threads = subst (λ (ns : Objects). Goes threads (held_shapes ns) text n lines rest m) (take_all i names le) (read threads)
+held_whole names i text n lines rest m le read threads = subst (λ (ns : Objects). GoesOverLines threads (held_shapes ns) text n lines rest m) (take_all i names le) (read threads)
 
 -- ---- the whole text
 
@@ -337,17 +337,17 @@ held_are threads [] (l ∷ ls) h = absurd h
 held_are threads (entry ∷ names) [] h = absurd h
 held_are threads (entry ∷ names) (l ∷ ls) h = (h.0, held_are threads names ls h.1)
 
-pub joined_flat : (rs : List (List (List ℕ))) → joined (flat rs) ≡ replies_text rs
+pub joined_flat : (rs : List (List (List ℕ))) → joined_lines (flat rs) ≡ replies_text rs
 joined_flat [] = refl
-joined_flat (r ∷ rs) = joined_append [] r (flat rs) ∙ ap (λ (xs : List ℕ). joined r ++ xs) (joined_flat rs)
+joined_flat (r ∷ rs) = joined_append [] r (flat rs) ∙ ap (λ (xs : List ℕ). joined_lines r ++ xs) (joined_flat rs)
 
-pub joined_places : (threads : List (List Command)) (ps : List Place) → joined (map (place_text threads) ps) ≡ places_text threads ps
+pub joined_places : (threads : List (List Command)) (ps : List Place) → joined_lines (map (place_text threads) ps) ≡ places_text threads ps
 joined_places threads [] = refl
 joined_places threads (p ∷ ps) = ap (λ (xs : List ℕ). place_text threads p ++ xs) (joined_places threads ps)
 
 -- ---- how a reading of the whole text fails
 
-pub so_goes : (threads : List (List Command)) (ks more : List Shape) (text : List ℕ) (n : ℕ) (ls : List (List ℕ)) (rest : List ℕ) (m : ℕ) (e : CheckError) → Goes threads ks text n ls rest m → FailsSo threads more rest m e → FailsSo threads (ks ++ more) text n e
+pub so_goes : (threads : List (List Command)) (ks more : List Shape) (text : List ℕ) (n : ℕ) (ls : List (List ℕ)) (rest : List ℕ) (m : ℕ) (e : CheckError) → GoesOverLines threads ks text n ls rest m → FailsSo threads more rest m e → FailsSo threads (ks ++ more) text n e
 so_goes threads ks more text n ls rest m (error.Fault line why.Form) g h = goes_fails threads ks more text n ls rest m line g h
 so_goes threads ks more text n ls rest m (error.Fault line why.Turn) g h = absurd h
 so_goes threads ks more text n ls rest m (error.Fault line why.Waits) g h = absurd h
@@ -405,7 +405,7 @@ other_line a b h e = by (pointwise nat_eq a b) ((slice_eq-Decides Decides-eqb a 
     by false f g = cc f
 
 -- the parts of a text, as far as they have been read
-module _ (s : Script) (text : List ℕ) (replies : List (List (List ℕ))) (rest1 : List ℕ) (n1 : ℕ) (one : Goes s.threads (replies_shapes 1 s.threads) text 1 (flat replies) rest1 n1) where
+module _ (s : Script) (text : List ℕ) (replies : List (List (List ℕ))) (rest1 : List ℕ) (n1 : ℕ) (one : GoesOverLines s.threads (replies_shapes 1 s.threads) text 1 (flat replies) rest1 n1) where
   places_shapes : List Shape
   places_shapes = replicate (places_in s.threads) place
 
@@ -427,7 +427,7 @@ module _ (s : Script) (text : List ℕ) (replies : List (List (List ℕ))) (rest
     unfolding places_shapes
     fails_places e h = behind_order e (so_however s.threads places_shapes last_shapes rest2 n2 e h)
 
-    module _ (places : List Place) (rest3 : List ℕ) (n3 : ℕ) (two : Goes s.threads (replicate (places_in s.threads) place) rest2 n2 (map (place_text s.threads) places) rest3 n3) where
+    module _ (places : List Place) (rest3 : List ℕ) (n3 : ℕ) (two : GoesOverLines s.threads (replicate (places_in s.threads) place) rest2 n2 (map (place_text s.threads) places) rest3 n3) where
       behind_places : (e : CheckError) → FailsSo s.threads last_shapes rest3 n3 e → FailsForm s text e
       unfolding places_shapes
       behind_places e h = behind_order e (so_goes s.threads places_shapes last_shapes rest2 n2 (map (place_text s.threads) places) rest3 n3 e two h)
@@ -444,18 +444,18 @@ module _ (s : Script) (text : List ℕ) (replies : List (List (List ℕ))) (rest
         pub fails_held : (e : CheckError) → FailsHowever s.threads (held_shapes s.objects) rest4 n4 e → FailsForm s text e
         fails_held e h = behind_state e (subst (λ (ks : List Shape). FailsSo s.threads ks rest4 n4 e) (append-nil (held_shapes s.objects)) (so_however s.threads (held_shapes s.objects) [] rest4 n4 e h))
 
-        module _ (lines : List (List ℕ)) (rest5 : List ℕ) (n5 : ℕ) (three : Goes s.threads (held_shapes s.objects) rest4 n4 lines rest5 n5) where
+        module _ (lines : List (List ℕ)) (rest5 : List ℕ) (n5 : ℕ) (three : GoesOverLines s.threads (held_shapes s.objects) rest4 n4 lines rest5 n5) where
           pub fails_end : (e : CheckError) → rest5 ≢ [] → e ≡ error.Fault n5 why.Form → FailsForm s text e
           fails_end e more is = subst (FailsForm s text) (sym is) (behind_state (error.Fault n5 why.Form) (subst (λ (ks : List Shape). FailsSo s.threads ks rest4 n4 (error.Fault n5 why.Form)) (append-nil (held_shapes s.objects)) (so_goes s.threads (held_shapes s.objects) [] rest4 n4 lines rest5 n5 (error.Fault n5 why.Form) three (more, refl))))
 
-          pub text_formed : rest5 ≡ [] → AllReplies 1 s.threads replies → All (IsPlace s.threads) places → length places ≡ places_in s.threads → IsFormed s text (record { replies = replies; places = places; state = lines })
+          pub text_formed : rest5 ≡ [] → AllReplies 1 s.threads replies → All (IsThreadPlace s.threads) places → length places ≡ places_in s.threads → IsFormed s text (record { replies = replies; places = places; state = lines })
           text_formed none all each count = record {
             replies = all;
             places = each;
             count = count;
             state = held_are s.threads s.objects lines three.shaped;
-            spelled = one.spelled ∙ ap₂ (λ (xs ys : List ℕ). xs ++ ys) (joined_flat replies) (order ∙ ap (λ (xs : List ℕ). codes "order\n" ++ xs) (two.spelled ∙ ap₂ (λ (xs ys : List ℕ). xs ++ ys) (joined_places s.threads places) (state ∙ ap (λ (xs : List ℕ). codes "state\n" ++ xs) (three.spelled ∙ ap (λ (xs : List ℕ). joined lines ++ xs) none ∙ append-nil (joined lines)))))
-                ∙ sym (regroup (replies_text replies) (codes "order\n") (places_text s.threads places) (codes "state\n") (joined lines));
+            spelled = one.spelled ∙ ap₂ (λ (xs ys : List ℕ). xs ++ ys) (joined_flat replies) (order ∙ ap (λ (xs : List ℕ). codes "order\n" ++ xs) (two.spelled ∙ ap₂ (λ (xs ys : List ℕ). xs ++ ys) (joined_places s.threads places) (state ∙ ap (λ (xs : List ℕ). codes "state\n" ++ xs) (three.spelled ∙ ap (λ (xs : List ℕ). joined_lines lines ++ xs) none ∙ append-nil (joined_lines lines)))))
+                ∙ sym (regroup (replies_text replies) (codes "order\n") (places_text s.threads places) (codes "state\n") (joined_lines lines));
           }
             where
               regroup : (a b c d e : List ℕ) → (((a ++ b) ++ c) ++ d) ++ e ≡ a ++ (b ++ (c ++ (d ++ e)))

@@ -14,9 +14,9 @@ use Rattle.kc_check.proofs.Numerals.{number_of_decimal}
 use Rattle.kc_check.proofs.Replays.{commands_are, commands_long}
 use Rattle.kc_check.proofs.Unique.{decimal_lacks, place_is_line, split_one}
 use Rattle.kc_check.proofs.Walks.{parted}
-use Rattle.kc_check.specs.Laid.{AreFew, IsLine, Lacks}
-use Rattle.kc_check.specs.Forms.{Names}
-use Rattle.kc_check.specs.Parts.{IsPlace, mark_at, place_text}
+use Rattle.kc_check.specs.Laid.{AreFew, IsLine, ByteIsMissing}
+use Rattle.kc_check.specs.Forms.{NamesPlace}
+use Rattle.kc_check.specs.Parts.{IsThreadPlace, mark_at, place_text}
 use Rattle.kc_check.specs.Reads.{IsPlainNumber, NamesNone}
 use Rattle.kc_check.specs.Replays.{commands_of}
 
@@ -93,37 +93,37 @@ no_number n word small none k some le e = none (k, omega arith, e)
 place_parts : (threads : List (List Command)) (p : Place) → place_text threads p ≡ (decimal (p.thread + 1) ++ codes ".") ++ (mark_text (mark_at (length (slice_index_or threads p.thread [])) p.index) ++ codes "\n")
 place_parts threads p = append_assoc (decimal (p.thread + 1) ++ codes ".") (mark_text (mark_at (length (slice_index_or threads p.thread [])) p.index)) (codes "\n")
 
-pub named_is_line : (threads : List (List Command)) (line : List ℕ) → AreFew threads → Names threads line → IsLine line
+pub named_is_line : (threads : List (List Command)) (line : List ℕ) → AreFew threads → NamesPlace threads line → IsLine line
 named_is_line threads line few named = subst IsLine (sym named.spelled) (place_is_line threads few named.at named.is)
 
 module _ (vs : List (Vec Command Global)) (line : List ℕ) where
   -- what a line that names a place has at its first dot
-  named_parts : (named : Names (commands_of vs) line) → line ≡ decimal (named.at.thread + 1) ++ 46 ∷ (mark_text (mark_at (length (slice_index_or (commands_of vs) named.at.thread [])) named.at.index) ++ codes "\n")
+  named_parts : (named : NamesPlace (commands_of vs) line) → line ≡ decimal (named.at.thread + 1) ++ 46 ∷ (mark_text (mark_at (length (slice_index_or (commands_of vs) named.at.thread [])) named.at.index) ++ codes "\n")
   named_parts named = named.spelled ∙ place_parts (commands_of vs) named.at ∙ append_assoc (decimal (named.at.thread + 1)) (codes ".") (mark_text (mark_at (length (slice_index_or (commands_of vs) named.at.thread [])) named.at.index) ++ codes "\n")
 
-  pub no_dot : Lacks 46 line → Names (commands_of vs) line → ⊥
-  no_dot lacks named = there (decimal (named.at.thread + 1)) (mark_text (mark_at (length (slice_index_or (commands_of vs) named.at.thread [])) named.at.index) ++ codes "\n") (subst (Lacks 46) (named_parts named) lacks)
+  pub no_dot : ByteIsMissing 46 line → NamesPlace (commands_of vs) line → ⊥
+  no_dot lacks named = there (decimal (named.at.thread + 1)) (mark_text (mark_at (length (slice_index_or (commands_of vs) named.at.thread [])) named.at.index) ++ codes "\n") (subst (ByteIsMissing 46) (named_parts named) lacks)
     where
-      there : (xs ys : List ℕ) → Lacks 46 (xs ++ 46 ∷ ys) → ⊥
+      there : (xs ys : List ℕ) → ByteIsMissing 46 (xs ++ 46 ∷ ys) → ⊥
       there [] ys h = h.0 refl
       there (x ∷ xs) ys h = there xs ys h.1
 
-  module _ (dot : ℕ) (within : dot < length line) (lacks : Lacks 46 (take dot line)) (at : get_or line dot 0 ≡ 46) (few : length vs ≤ 16) where
+  module _ (dot : ℕ) (within : dot < length line) (lacks : ByteIsMissing 46 (take dot line)) (at : get_or line dot 0 ≡ 46) (few : length vs ≤ 16) where
     cut : line ≡ take dot line ++ 46 ∷ drop (dot + 1) line
     cut = parted line dot 0 within ∙ ap (λ (b : ℕ). take dot line ++ b ∷ drop (dot + 1) line) at
 
-    thread_small : (named : Names (commands_of vs) line) → named.at.thread < length vs
+    thread_small : (named : NamesPlace (commands_of vs) line) → named.at.thread < length vs
     thread_small named = let a = commands_long vs in let lt = named.is.thread in omega (arith, a, lt)
 
-    front_is : (named : Names (commands_of vs) line) → take dot line ≡ decimal (named.at.thread + 1)
+    front_is : (named : NamesPlace (commands_of vs) line) → take dot line ≡ decimal (named.at.thread + 1)
     front_is named =
         let lt = thread_small named in
         (split_one 46 (take dot line) (decimal (named.at.thread + 1)) (drop (dot + 1) line) (mark_text (mark_at (length (slice_index_or (commands_of vs) named.at.thread [])) named.at.index) ++ codes "\n") lacks (decimal_lacks 46 (named.at.thread + 1) (omega arith) (omega (arith, lt, few))) (sym cut ∙ named_parts named)).0
 
-    pub no_thread : (IsPlainNumber (take dot line) → ⊥) → Names (commands_of vs) line → ⊥
+    pub no_thread : (IsPlainNumber (take dot line) → ⊥) → NamesPlace (commands_of vs) line → ⊥
     no_thread none named = let lt = thread_small named in none (named.at.thread + 1, omega (arith, lt, few), front_is named)
 
-    pub other_thread : (n : ℕ) → n < 2 ^ 32 → take dot line ≡ decimal n → (n ≡ 0) ⊎ (length vs < n) → Names (commands_of vs) line → ⊥
+    pub other_thread : (n : ℕ) → n < 2 ^ 32 → take dot line ≡ decimal n → (n ≡ 0) ⊎ (length vs < n) → NamesPlace (commands_of vs) line → ⊥
     other_thread n small is out named =
         let lt = thread_small named in
         let same : n ≡ named.at.thread + 1 = decimal_injective n (named.at.thread + 1) (omega (arith, small)) (omega (arith, lt, few)) (sym is ∙ front_is named) in
@@ -136,7 +136,7 @@ module _ (vs : List (Vec Command Global)) (line : List ℕ) where
     row : slice_index_or (commands_of vs) t [] ≡ v.items
     row = commands_are vs t v lt at
 
-    pub named_place : (k index : ℕ) → k ≡ length v.items → index ≤ k → IsPlace (commands_of vs) (record { thread = t; index = index })
+    pub named_place : (k index : ℕ) → k ≡ length v.items → index ≤ k → IsThreadPlace (commands_of vs) (record { thread = t; index = index })
     named_place k index long le =
         let a = commands_long vs in
         let b = ap length row in
@@ -148,7 +148,7 @@ module _ (vs : List (Vec Command Global)) (line : List ℕ) where
         let p : Place = record { thread = t; index = index } in
         is ∙ ap (λ (j : ℕ). (decimal j ++ codes ".") ++ rest) next ∙ ap (λ (xs : List ℕ). (decimal (t + 1) ++ codes ".") ++ xs) (says ∙ ap (λ (j : ℕ). mark_text (mark_at j index) ++ codes "\n") b) ∙ sym (place_parts (commands_of vs) p)
 
-    pub named_none : (k : ℕ) → k ≡ length v.items → NamesNone k rest → Names (commands_of vs) line → ⊥
+    pub named_none : (k : ℕ) → k ≡ length v.items → NamesNone k rest → NamesPlace (commands_of vs) line → ⊥
     named_none k long none named =
         let p : Place = named.at in
         let a = commands_long vs in

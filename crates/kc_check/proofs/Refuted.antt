@@ -13,21 +13,21 @@ use Rattle.kc_script_bundle.specs.Script.{Names, Script}
 use Rattle.kc_script_bundle.specs.State.{shown, state_line, state_text}
 use Rattle.kc_script_runs.proofs.Determined.{canonical_has, place, replays_are_one, same_lists}
 use Rattle.kc_script_bundle.specs.declared.operation.Command.{Command}
-use Rattle.kc_script_runs.specs.Labels.{AreThreads, Label, label, labels}
-use Rattle.kc_script_runs.specs.Run.{IsRun, opening_store}
+use Rattle.kc_script_runs.specs.Labels.{ThreadsHaveRecords, Label, label, labels}
+use Rattle.kc_script_runs.specs.Run.{IsScriptRun, opening_store}
 use Rattle.kc_xt.specs.Meaning.{values}
 use Rattle.kc_check.proofs.Fronts.{not_out_of_turn, not_replying_else, not_waiting}
 use Rattle.kc_check.proofs.Shown.{parts_of, run_again, run_comes, run_count, run_laid, run_state}
 use Rattle.kc_check.proofs.Unique.{heads, parts_one, tails}
-use Rattle.kc_check.specs.Faults.{Comes, ComesWhole, FailsIn, HasToWait, IsDisordered, IsOutOfTurn, RepliesElse, ShowsElse, StopsAt}
-use Rattle.kc_check.specs.Laid.{AllLines, AllReplyLines, AreFew, IsLaid}
+use Rattle.kc_check.specs.Faults.{PlacesReplayed, ComesWhole, FailsIn, HasToWait, IsDisordered, IsOutOfTurn, RepliesElse, ShowsElse, StopsAt}
+use Rattle.kc_check.specs.Laid.{AllLines, AllReplyLines, AreFew, TextIsLaid}
 use Rattle.kc_check.specs.Parts.{Parts}
 use Rattle.kc_check.specs.Shown.{held_lines, replies_for}
 use Rattle.kc_check.specs.declared.error.CheckWhy.{CheckWhy}
 use Rattle.kc_check.specs.declared.error.CheckWhy.TheVariants as why
 
 -- lists for the same threads have records at the same places
-also_there : (threads : List (List Command)) (records others : List (List Record)) → AreThreads 1 threads records → AreThreads 1 threads others → (t k : ℕ) (q : Record) → record_at others t k ≡ Some q → (r : Record) × (record_at records t k ≡ Some r)
+also_there : (threads : List (List Command)) (records others : List (List Record)) → ThreadsHaveRecords 1 threads records → ThreadsHaveRecords 1 threads others → (t k : ℕ) (q : Record) → record_at others t k ≡ Some q → (r : Record) × (record_at records t k ≡ Some r)
 also_there threads records others h i t k q at = in_lists 1 threads records others h i t k q at
   where
     in_list : (xs ys : List Record) (ls : List Label) → map label xs ≡ ls → map label ys ≡ ls → (k : ℕ) (q : Record) → slice_get ys k ≡ Some q → (r : Record) × (slice_get xs k ≡ Some r)
@@ -36,7 +36,7 @@ also_there threads records others h i t k q at = in_lists 1 threads records othe
     in_list (x ∷ xs) (y ∷ ys) ls e f zero q at = (x, refl)
     in_list (x ∷ xs) (y ∷ ys) ls e f (suc k) q at = in_list xs ys (map label ys) (tails (label x) (label y) (map label xs) (map label ys) (e ∙ sym f)) refl k q at
 
-    in_lists : (j : ℕ) (threads : List (List Command)) (records others : List (List Record)) → AreThreads j threads records → AreThreads j threads others → (t k : ℕ) (q : Record) → record_at others t k ≡ Some q → (r : Record) × (record_at records t k ≡ Some r)
+    in_lists : (j : ℕ) (threads : List (List Command)) (records others : List (List Record)) → ThreadsHaveRecords j threads records → ThreadsHaveRecords j threads others → (t k : ℕ) (q : Record) → record_at others t k ≡ Some q → (r : Record) × (record_at records t k ≡ Some r)
     in_lists j [] [] [] h i t k q at = absurd (cc)
     in_lists j [] [] (ys ∷ others) h i t k q at = absurd i
     in_lists j [] (xs ∷ records) others h i t k q at = absurd h
@@ -46,7 +46,7 @@ also_there threads records others h i t k q at = in_lists 1 threads records othe
     in_lists j (cs ∷ threads) (xs ∷ records) (ys ∷ others) h i (suc t) k q at = in_lists (j + 1) threads records others h.1 i.1 t k q at
 
 -- records that come at all places of a run are the run's
-pub whole_one : (s : Script) (parts : Parts) (records others : List (List Record)) (last end : Store) → IsRun s records parts.places last → ComesWhole s parts end others → (records ≡ others) × (last ≡ end)
+pub whole_one : (s : Script) (parts : Parts) (records others : List (List Record)) (last end : Store) → IsScriptRun s records parts.places last → ComesWhole s parts end others → (records ≡ others) × (last ≡ end)
 whole_one s parts records others last end run whole =
     let one = replays_are_one s.limit s.threads records others run.threads whole.comes.labelled parts.places (opening_store s) last end run.replays whole.comes.replays in
     let at : (t k : ℕ) → record_at records t k ≡ record_at others t k = λ t k. by t k (record_at records t k) (record_at others t k) refl refl one.1 in
@@ -71,10 +71,10 @@ pub held_apart : (front : Names) (entry : List ℕ × Object) (back : Names) (m 
 held_apart [] entry back m = refl
 held_apart (x ∷ front) entry back m = ap (λ (ls : List (List ℕ)). state_line x.0 (shown x.1 m) ∷ ls) (held_apart front entry back m)
 
-module _ (s : Script) (parts : Parts) (records : List (List Record)) (last : Store) (run : IsRun s records parts.places last) (whole : ComesWhole s parts last records) where
-  stops_not : (Wrong : Place → (ℕ → ℕ) → Store → Type 0) → ((front : List Place) (p : Place) (back : List Place) → Comes s.limit s.threads parts.replies (opening_store s) (front ++ p ∷ back) whole.stand last records → (stand : ℕ → ℕ) (now : Store) (others : List (List Record)) → Comes s.limit s.threads parts.replies (opening_store s) front stand now others → Wrong p stand now → ⊥)
+module _ (s : Script) (parts : Parts) (records : List (List Record)) (last : Store) (run : IsScriptRun s records parts.places last) (whole : ComesWhole s parts last records) where
+  stops_not : (Wrong : Place → (ℕ → ℕ) → Store → Type 0) → ((front : List Place) (p : Place) (back : List Place) → PlacesReplayed s.limit s.threads parts.replies (opening_store s) (front ++ p ∷ back) whole.stand last records → (stand : ℕ → ℕ) (now : Store) (others : List (List Record)) → PlacesReplayed s.limit s.threads parts.replies (opening_store s) front stand now others → Wrong p stand now → ⊥)
       → (p : Place) (front : List Place) → StopsAt s.limit s.threads parts.replies (opening_store s) parts.places Wrong p front → ⊥
-  stops_not Wrong refutes p front stops = refutes front p stops.back (subst (λ (ps : List Place). Comes s.limit s.threads parts.replies (opening_store s) ps whole.stand last records) stops.splits whole.comes) stops.stand stops.now stops.records stops.comes stops.wrong
+  stops_not Wrong refutes p front stops = refutes front p stops.back (subst (λ (ps : List Place). PlacesReplayed s.limit s.threads parts.replies (opening_store s) ps whole.stand last records) stops.splits whole.comes) stops.stand stops.now stops.records stops.comes stops.wrong
 
   pub not_turn : (p : Place) (front : List Place) → StopsAt s.limit s.threads parts.replies (opening_store s) parts.places (IsOutOfTurn s.limit s.threads parts.replies (opening_store s)) p front → ⊥
   not_turn = stops_not (IsOutOfTurn s.limit s.threads parts.replies (opening_store s)) (λ front p back comes stand now others also. not_out_of_turn s.limit s.threads parts.replies (opening_store s) front p back whole.stand last records comes stand now others also)
@@ -103,17 +103,17 @@ module _ (s : Script) (parts : Parts) (records : List (List Record)) (last : Sto
       let given : x.front ++ x.line ∷ x.back ≡ held_lines x.shown_front m ++ state_line x.entry.0 (shown x.entry.1 m) ∷ held_lines x.shown_back m = sym x.given ∙ held' ∙ ap (λ (names : Names). held_lines names m) x.objects ∙ held_apart x.shown_front x.entry x.shown_back m in
       x.differs (at_one x.front (held_lines x.shown_front m) x.line (state_line x.entry.0 (shown x.entry.1 m)) x.back (held_lines x.shown_back m) (ap length x.before) given)
 
-pub no_later_fault : (s : Script) (text : List ℕ) (parts : Parts) (records : List (List Record)) (order : List Place) (last : Store) (line : ℕ) (w : CheckWhy) → AreFew s.threads → IsRun s records order last → AllReplyLines (replies_for s.threads records) → AllLines (held_lines s.objects (values last))
-    → text ≡ reply_lines records ++ codes "order\n" ++ order_lines records order ++ codes "state\n" ++ state_text s.objects (values last) → IsLaid s text parts → FailsIn s parts line w → ⊥
+pub no_later_fault : (s : Script) (text : List ℕ) (parts : Parts) (records : List (List Record)) (order : List Place) (last : Store) (line : ℕ) (w : CheckWhy) → AreFew s.threads → IsScriptRun s records order last → AllReplyLines (replies_for s.threads records) → AllLines (held_lines s.objects (values last))
+    → text ≡ reply_lines records ++ codes "order\n" ++ order_lines records order ++ codes "state\n" ++ state_text s.objects (values last) → TextIsLaid s text parts → FailsIn s parts line w → ⊥
 no_later_fault s text parts records order last line w few run replies held spelled laid fails =
     let mine = run_laid s records order last run text (run_count s records order last run) replies held spelled in
     let same : parts_of s records order last run ≡ parts = parts_one s text (parts_of s records order last run) parts few mine laid in
-    let run' : IsRun s records parts.places last = subst (λ (x : Parts). IsRun s records x.places last) same (run_again s records order last run) in
+    let run' : IsScriptRun s records parts.places last = subst (λ (x : Parts). IsScriptRun s records x.places last) same (run_again s records order last run) in
     let whole : ComesWhole s parts last records = subst (λ (x : Parts). ComesWhole s x last records) same (run_comes s records order last run) in
     let held_is : parts.state ≡ held_lines s.objects (values last) = sym (ap (λ (x : Parts). x.state) same) ∙ run_state s records order last run in
     by w run' whole held_is fails
   where
-    by : (w : CheckWhy) → IsRun s records parts.places last → ComesWhole s parts last records → parts.state ≡ held_lines s.objects (values last) → FailsIn s parts line w → ⊥
+    by : (w : CheckWhy) → IsScriptRun s records parts.places last → ComesWhole s parts last records → parts.state ≡ held_lines s.objects (values last) → FailsIn s parts line w → ⊥
     by why.Form run' whole held_is f = f
     by why.Turn run' whole held_is (p, front, stops, is) = not_turn s parts records last run' whole p front stops
     by why.Waits run' whole held_is (p, front, stops, is) = not_waits s parts records last run' whole p front stops

@@ -6,7 +6,7 @@ use Rattle.std.specs.Global.{Global}
 use Rattle.std.specs.Prelude.{slice_get}
 use Rattle.kc_history.proofs.Choice.{some_is}
 use Rattle.kc_history.proofs.Ready.{same_or, more_same, more_other}
-use Rattle.kc_history.specs.Order.{more}
+use Rattle.kc_history.specs.Order.{one_record_more}
 use Rattle.kc_history.specs.Ends.{AreWellMade, CanStand}
 use Rattle.kc_history.specs.Records.{footprint_at, lists_of, record_at}
 use Rattle.kc_history.specs.RecordsValue.{RecordsValue}
@@ -14,23 +14,23 @@ use Rattle.kc_history.specs.declared.record.Mark.TheVariants as mark
 use Rattle.kc_model.specs.declared.footprint.TheConstants.{MOST}
 use Rattle.kc_model.specs.declared.footprint.Footprint.{Footprint}
 use Rattle.std.specs.Option.{option_map}
-use Rattle.kc_history.specs.Text.{bare, reply_line}
+use Rattle.kc_history.specs.Text.{bare_record, reply_line}
 use Rattle.kc_history.specs.declared.record.Head.{Head}
 use Rattle.kc_history.specs.declared.record.Place.{Place}
 use Rattle.kc_history.specs.declared.record.Record.{Record}
 use Rattle.kc_model.specs.Store.{Store, after}
 use Rattle.kc_script_bundle.specs.Meaning.{end_meaning}
 use Rattle.kc_script_bundle.specs.declared.operation.Command.{Command}
-use Rattle.kc_script_runs.specs.Labels.{AreThreads, Label, label, labels}
+use Rattle.kc_script_runs.specs.Labels.{ThreadsHaveRecords, Label, label, labels}
 use Rattle.kc_script_runs.specs.Run.{IsCommit, Replays, meaning_at}
 use Rattle.kc_script_runs.specs.Threads.{asked, meanings}
 use Rattle.kc_xt.specs.Meaning.{Meaning, limited}
 use Rattle.kc_check.proofs.Padded.{as_many, count_at, counts_set, padded_more, padded_row, padded_set, padded_threads, room_at, room_more, room_set}
 use Rattle.kc_check.proofs.Headed.{head_line}
 use Rattle.kc_check.proofs.Fronts.{replays_more, replays_same, turns_more}
-use Rattle.kc_check.specs.Faults.{Comes, InTurn}
-use Rattle.kc_check.specs.Parts.{IsPlace, said_at}
-use Rattle.kc_check.specs.Replays.{AddsAt, CommitsAt, HasRoom, HaveRoom, KeepFirst, TakesOne, WaitsAt, WaitsIn, all_kept, all_padded, commands_of, counts, kept_list, kept_record, padded}
+use Rattle.kc_check.specs.Faults.{PlacesReplayed, InTurn}
+use Rattle.kc_check.specs.Parts.{IsThreadPlace, said_at}
+use Rattle.kc_check.specs.Replays.{AddsAt, CommitsAt, HasRoomForRecords, HaveRoom, KeepFirst, TakesOne, WaitsAt, WaitsIn, all_kept, all_padded, commands_of, counts, kept_list, kept_record, padded}
 
 pub meanings_at : (limit thread : ℕ) (cs : List Command) (i : ℕ) (d : Command) → i < length cs → slice_get (meanings limit thread cs) i ≡ Some (asked limit thread (get_or cs i d))
 meanings_at limit thread [] i d lt = absurd (omega arith)
@@ -87,7 +87,7 @@ place_is p q e f = ap₂ (λ (t k : ℕ). let x : Place = record { thread = t; i
 
 -- one record of the lists is the commit of what is meant at the place
 pub commits_at : (limit : ℕ) (threads : List (List Command)) (p : Place) (s t : Store) (old new : List (List Record)) (m : Meaning) (r : Record) → p.thread < length old → p.index < length (slice_index_or old p.thread []) → meaning_at limit threads p.thread p.index ≡ Some m → IsCommit m s r → CanStand r.footprint → t ≡ after r.footprint s
-    → new ≡ set old p.thread (set (slice_index_or old p.thread []) p.index r) → AreThreads 1 threads new → CommitsAt limit threads p s t old new
+    → new ≡ set old p.thread (set (slice_index_or old p.thread []) p.index r) → ThreadsHaveRecords 1 threads new → CommitsAt limit threads p s t old new
 commits_at limit threads p s t old new m r within inside means commit made store is labelled =
     let row : List Record = slice_index_or old p.thread [] in
     let here : slice_index_or new p.thread [] ≡ set row p.index r = ap (λ (xs : List (List Record)). slice_index_or xs p.thread []) is ∙ row_set old p.thread (set row p.index r) within in
@@ -109,13 +109,13 @@ commits_at limit threads p s t old new m r within inside means commit made store
       store = store;
     }
 
-pub threads_long : (j : ℕ) (threads : List (List Command)) (records : List (List Record)) → AreThreads j threads records → length records ≡ length threads
+pub threads_long : (j : ℕ) (threads : List (List Command)) (records : List (List Record)) → ThreadsHaveRecords j threads records → length records ≡ length threads
 threads_long j [] [] h = refl
 threads_long j [] (r ∷ rs) h = absurd h
 threads_long j (cs ∷ threads) [] h = absurd h
 threads_long j (cs ∷ threads) (r ∷ rs) h = ap suc (threads_long (j + 1) threads rs h.1)
 
-row_labels : (j : ℕ) (threads : List (List Command)) (records : List (List Record)) (t : ℕ) → t < length threads → AreThreads j threads records → length (slice_index_or records t []) ≡ length (slice_index_or threads t []) + 1
+row_labels : (j : ℕ) (threads : List (List Command)) (records : List (List Record)) (t : ℕ) → t < length threads → ThreadsHaveRecords j threads records → length (slice_index_or records t []) ≡ length (slice_index_or threads t []) + 1
 row_labels j [] records t lt h = absurd (omega arith)
 row_labels j (cs ∷ threads) [] t lt h = absurd h
 row_labels j (cs ∷ threads) (rs ∷ records) zero lt h =
@@ -168,10 +168,10 @@ pub record Row (limit : ℕ) (threads : List (List Command)) (whole : List Recor
   pub at : list ≡ get_or whole p.thread list
   pub is : kept ≡ kept_list list
   pub long : length kept.items ≡ length list.items
-  pub room : HasRoom limit (p.thread + 1) (slice_index_or threads p.thread []) list
+  pub room : HasRoomForRecords limit (p.thread + 1) (slice_index_or threads p.thread []) list
   pub turn : p.index ≡ counts (lists_of whole) p.thread → length list.items ≡ p.index
 
-pub row_of : (limit : ℕ) (threads : List (List Command)) (rs : List RecordsValue) (p : Place) (w : RecordsValue) → (k : KeepFirst limit threads rs) → IsPlace threads p → w ≡ get_or rs p.thread w → Row limit threads k.whole p w
+pub row_of : (limit : ℕ) (threads : List (List Command)) (rs : List RecordsValue) (p : Place) (w : RecordsValue) → (k : KeepFirst limit threads rs) → IsThreadPlace threads p → w ≡ get_or rs p.thread w → Row limit threads k.whole p w
 row_of limit threads rs p w k is e =
     let whole : List RecordsValue = k.whole in
     let long = as_many limit 1 threads whole k.room in
@@ -194,7 +194,7 @@ pub kept_turn : (limit : ℕ) (threads : List (List Command)) (rs : List Records
 kept_turn limit threads rs p k turn = turn ∙ ap (λ (vs : List RecordsValue). counts (lists_of vs) p.thread) k.kept ∙ kept_counts k.whole p.thread
 
 -- it takes one more
-pub row_takes : (limit : ℕ) (threads : List (List Command)) (whole : List RecordsValue) (p : Place) (w : RecordsValue) → Row limit threads whole p w → IsPlace threads p → p.index ≡ counts (lists_of whole) p.thread → TakesOne limit w
+pub row_takes : (limit : ℕ) (threads : List (List Command)) (whole : List RecordsValue) (p : Place) (w : RecordsValue) → Row limit threads whole p w → IsThreadPlace threads p → p.index ≡ counts (lists_of whole) p.thread → TakesOne limit w
 row_takes limit threads whole p w row is turn =
     let count = row.turn turn in
     let le = is.index in
@@ -206,11 +206,11 @@ pub record Filled (limit : ℕ) (threads : List (List Command)) (p : Place) (s t
   pub now : List RecordsValue
   pub kept : others ≡ all_kept now
   pub room : HaveRoom limit 1 threads now
-  pub grown : counts (lists_of now) ≡ more p.thread (counts (lists_of whole))
+  pub grown : counts (lists_of now) ≡ one_record_more p.thread (counts (lists_of whole))
   pub commits : CommitsAt limit threads p s t (all_padded 1 threads (lists_of whole)) (all_padded 1 threads (lists_of now))
-  pub line : reply_line (bare h) ≡ reply_line commits.commit
+  pub line : reply_line (bare_record h) ≡ reply_line commits.commit
 
-pub fills_at : (limit : ℕ) (threads : List (List Command)) (rs others : List RecordsValue) (p : Place) (s t : Store) (h : Head) → (kept : KeepFirst limit threads rs) → IsPlace threads p → p.index ≡ counts (lists_of kept.whole) p.thread → AddsAt limit threads p s t h rs others → Filled limit threads p s t h kept.whole others
+pub fills_at : (limit : ℕ) (threads : List (List Command)) (rs others : List RecordsValue) (p : Place) (s t : Store) (h : Head) → (kept : KeepFirst limit threads rs) → IsThreadPlace threads p → p.index ≡ counts (lists_of kept.whole) p.thread → AddsAt limit threads p s t h rs others → Filled limit threads p s t h kept.whole others
 unfolding commits_at
 fills_at limit threads rs others p s t h kept is turn a =
     let whole : List RecordsValue = kept.whole in
@@ -232,7 +232,7 @@ fills_at limit threads rs others p s t h kept is turn a =
     let limit_is : a.now.limit ≡ w.limit = c.adds.limit ∙ ap (λ (x : RecordsValue). x.limit) row.is in
     let now_is : a.now ≡ kept_list w' = (λ i. record { items = items i; spare = spare i; bare = bare_is i; limit = limit_is i }) in
     let some : 0 < w.bare = (let le = is.index in let room_is = row.room.1 in omega (arith, count, room_is, le)) in
-    let room' : HasRoom limit k cs w' = room_more limit k cs w w' r l row.room some labelled refl refl refl refl refl in
+    let room' : HasRoomForRecords limit k cs w' = room_more limit k cs w w' r l row.room some labelled refl refl refl refl refl in
     let room : HaveRoom limit 1 threads now = room_set limit 1 threads whole p.thread k w' kept.room (omega arith) room' in
     let old : List (List Record) = all_padded 1 threads (lists_of whole) in
     let old_row : slice_index_or old p.thread [] ≡ padded k cs w.items = padded_row 1 threads whole p.thread k w is.thread row.within (omega arith) row.at in
@@ -252,7 +252,7 @@ fills_at limit threads rs others p s t h kept is turn a =
       room = room;
       grown = counts_set whole p.thread w w' row.within row.at (length_more w.items r);
       commits = commits_at limit threads p s t old (all_padded 1 threads (lists_of now)) c.meaning r within inside means (record { finds = commits.finds; answers = commits.answers }) commits.made commits.store new_is (padded_threads limit 1 threads now room);
-      line = ap (λ (x : Head). reply_line (bare x)) c.adds.head ∙ head_line r;
+      line = ap (λ (x : Head). reply_line (bare_record x)) c.adds.head ∙ head_line r;
     }
   where
     length_more : (xs : List Record) (x : Record) → length (xs ++ x ∷ []) ≡ length xs + 1
@@ -285,7 +285,7 @@ made_more limit threads p s t old new c made u k f is =
 
 -- ---- one place more comes
 
-more_le : (t : ℕ) (n : ℕ → ℕ) (u : ℕ) → n u ≤ more t n u
+more_le : (t : ℕ) (n : ℕ → ℕ) (u : ℕ) → n u ≤ one_record_more t n u
 more_le t n u = elim (same_or u t) [
   | inl e ↦ let h = more_same t n u e in omega arith
   | inr ne ↦ let h = more_other t n u ne in omega arith
@@ -293,17 +293,17 @@ more_le t n u = elim (same_or u t) [
 
 turns_grow : (ps : List Place) (n m : ℕ → ℕ) → InTurn n ps m → (u : ℕ) → n u ≤ m u
 turns_grow [] n m h u = let e : m u ≡ n u = ap (λ (k : ℕ → ℕ). k u) h in omega arith
-turns_grow (p ∷ ps) n m h u = let a = more_le p.thread n u in let b = turns_grow ps (more p.thread n) m h.1 u in omega arith
+turns_grow (p ∷ ps) n m h u = let a = more_le p.thread n u in let b = turns_grow ps (one_record_more p.thread n) m h.1 u in omega arith
 
 pub turn_below : (ps : List Place) (n m : ℕ → ℕ) → InTurn n ps m → (q : Place) → Contains ps q → q.index < m q.thread
 turn_below [] n m h q (i, lt, is) = absurd (omega arith)
 turn_below (p ∷ ps) n m h q (zero, lt, is) =
-    let a : more p.thread n p.thread ≡ n p.thread + 1 = more_same p.thread n p.thread refl in
-    let b : more p.thread n p.thread ≤ m p.thread = turns_grow ps (more p.thread n) m h.1 p.thread in
+    let a : one_record_more p.thread n p.thread ≡ n p.thread + 1 = more_same p.thread n p.thread refl in
+    let b : one_record_more p.thread n p.thread ≤ m p.thread = turns_grow ps (one_record_more p.thread n) m h.1 p.thread in
     let c : p.index ≡ n p.thread = h.0 in
     let d : p.index < m p.thread = omega arith in
     subst (λ (x : Place). x.index < m x.thread) is d
-turn_below (p ∷ ps) n m h q (suc i, lt, is) = turn_below ps (more p.thread n) m h.1 q (i, omega arith, is)
+turn_below (p ∷ ps) n m h q (suc i, lt, is) = turn_below ps (one_record_more p.thread n) m h.1 q (i, omega arith, is)
 
 contains_more : {X : Type 0} (xs : List X) (x y : X) → Contains (xs ++ x ∷ []) y → Contains xs y ⊎ (x ≡ y)
 contains_more [] x y (zero, lt, is) = inr is
@@ -312,11 +312,11 @@ contains_more (z ∷ xs) x y (zero, lt, is) = inl (0, omega arith, is)
 contains_more (z ∷ xs) x y (suc i, lt, is) = elim (contains_more xs x y (i, omega arith, is)) [ inl h ↦ inl (suc h.0, omega (arith, h.1), h.2) | inr e ↦ inr e ]
 
 module _ (limit : ℕ) (threads : List (List Command)) (replies : List (List (List ℕ))) (first : Store) where
-  pub comes_none : (records : List (List Record)) → AreThreads 1 threads records → Comes limit threads replies first [] (λ _. 0) first records
+  pub comes_none : (records : List (List Record)) → ThreadsHaveRecords 1 threads records → PlacesReplayed limit threads replies first [] (λ _. 0) first records
   comes_none records labelled = record { labelled = labelled; turns = refl; replays = refl; said = λ p (i, lt, is) r at. absurd (omega arith) }
 
-  pub comes_more : (front : List Place) (p : Place) (stand : ℕ → ℕ) (now next : Store) (records others : List (List Record)) → Comes limit threads replies first front stand now records → p.index ≡ stand p.thread → (c : CommitsAt limit threads p now next records others) → said_at replies p ≡ reply_line c.commit
-      → Comes limit threads replies first (front ++ p ∷ []) (more p.thread stand) next others
+  pub comes_more : (front : List Place) (p : Place) (stand : ℕ → ℕ) (now next : Store) (records others : List (List Record)) → PlacesReplayed limit threads replies first front stand now records → p.index ≡ stand p.thread → (c : CommitsAt limit threads p now next records others) → said_at replies p ≡ reply_line c.commit
+      → PlacesReplayed limit threads replies first (front ++ p ∷ []) (one_record_more p.thread stand) next others
   comes_more front p stand now next records others comes turn c said =
       let far : (q : Place) → Contains front q → q ≢ p = λ q inside e. (let below : q.index < stand q.thread = turn_below front (λ _. 0) stand comes.turns q inside in let moved : p.index < stand p.thread = subst (λ (x : Place). x.index < stand x.thread) e below in omega arith) in
       let kept : Replays limit threads others first front now = replays_same limit threads records others front first now (λ q inside. sym (c.others q (far q inside))) comes.replays in
@@ -332,7 +332,7 @@ module _ (limit : ℕ) (threads : List (List Command)) (replies : List (List (Li
         ];
       }
 
-pub place_within : (limit : ℕ) (threads : List (List Command)) (rs : List RecordsValue) (p : Place) → KeepFirst limit threads rs → IsPlace threads p → p.thread < length rs
+pub place_within : (limit : ℕ) (threads : List (List Command)) (rs : List RecordsValue) (p : Place) → KeepFirst limit threads rs → IsThreadPlace threads p → p.thread < length rs
 place_within limit threads rs p h is =
     let a = as_many limit 1 threads h.whole h.room in
     let b = ap length h.kept ∙ kept_long h.whole in

@@ -16,8 +16,8 @@ use Rattle.kc_script_bundle.specs.Script.{Names, Script}
 use Rattle.kc_script_bundle.specs.State.{shown, state_line, state_text}
 use Rattle.kc_script_bundle.specs.declared.operation.Command.{Command}
 use Rattle.kc_script_runs.proofs.Named.{replays_named}
-use Rattle.kc_script_runs.specs.Labels.{AreThreads, Label, label, labels}
-use Rattle.kc_script_runs.specs.Run.{IsRun, opening_store}
+use Rattle.kc_script_runs.specs.Labels.{ThreadsHaveRecords, Label, label, labels}
+use Rattle.kc_script_runs.specs.Run.{IsScriptRun, opening_store}
 use Rattle.kc_xt.specs.Meaning.{values}
 use Rattle.kc_check.proofs.Counting.{all_counted, chosen_turns, place_within}
 use Rattle.kc_check.proofs.Unique.{heads, tails}
@@ -25,8 +25,8 @@ use Rattle.kc_check.proofs.Whole.{labels_long, order_is}
 use Rattle.std.specs.Option.{option_map}
 use Rattle.kc_check.specs.Faults.{ComesWhole}
 use Rattle.kc_check.specs.Forms.{AllReplies, AreHeld, IsFormed}
-use Rattle.kc_check.specs.Laid.{AllLines, AllReplyLines, IsLaid}
-use Rattle.kc_check.specs.Parts.{AsMany, IsPlace, Parts, joined, places_in, places_text, replies_text}
+use Rattle.kc_check.specs.Laid.{AllLines, AllReplyLines, TextIsLaid}
+use Rattle.kc_check.specs.Parts.{AsMany, IsThreadPlace, Parts, joined_lines, places_in, places_text, replies_text}
 use Rattle.kc_check.specs.Shown.{held_lines, lines_for, replies_for}
 
 -- ---- the replies of a thread
@@ -39,7 +39,7 @@ lines_long thread n [] rs e = refl
 lines_long thread n (c ∷ cs) [] e = absurd (cc)
 lines_long thread n (c ∷ cs) (r ∷ rs) e = ap suc (lines_long thread (n + 1) cs rs (tails (label r) _ (map label rs) (labels thread (n + 1) cs) e))
 
-lines_joined : (thread n : ℕ) (cs : List Command) (rs : List Record) → map label rs ≡ labels thread n cs → flat_map reply_line rs ≡ joined (lines_for cs rs)
+lines_joined : (thread n : ℕ) (cs : List Command) (rs : List Record) → map label rs ≡ labels thread n cs → flat_map reply_line rs ≡ joined_lines (lines_for cs rs)
 lines_joined thread n [] [] e = absurd (cc)
 lines_joined thread n [] (r ∷ []) e = append-nil (reply_line r) ∙ is_end r thread [] e
 lines_joined thread n [] (r ∷ q ∷ rs) e = absurd (two (label r) (label q) (map label rs) (record { thread = thread; mark = mark.End }) e)
@@ -63,26 +63,26 @@ lines_said thread n (c ∷ cs) (q ∷ rs) e (suc k) r at = lines_said thread (n 
 
 -- ---- of all threads
 
-replies_many : (j : ℕ) (threads : List (List Command)) (records : List (List Record)) → AreThreads j threads records → AsMany threads (replies_for threads records)
+replies_many : (j : ℕ) (threads : List (List Command)) (records : List (List Record)) → ThreadsHaveRecords j threads records → AsMany threads (replies_for threads records)
 replies_many j [] [] h = tt
 replies_many j [] (rs ∷ records) h = absurd h
 replies_many j (cs ∷ threads) [] h = absurd h
 replies_many j (cs ∷ threads) (rs ∷ records) h = (lines_long j 1 cs rs h.0, replies_many (j + 1) threads records h.1)
 
-replies_joined : (j : ℕ) (threads : List (List Command)) (records : List (List Record)) → AreThreads j threads records → reply_lines records ≡ replies_text (replies_for threads records)
+replies_joined : (j : ℕ) (threads : List (List Command)) (records : List (List Record)) → ThreadsHaveRecords j threads records → reply_lines records ≡ replies_text (replies_for threads records)
 replies_joined j [] [] h = refl
 replies_joined j [] (rs ∷ records) h = absurd h
 replies_joined j (cs ∷ threads) [] h = absurd h
 replies_joined j (cs ∷ threads) (rs ∷ records) h = ap₂ (λ (x y : List ℕ). x ++ y) (lines_joined j 1 cs rs h.0) (replies_joined (j + 1) threads records h.1)
 
-replies_said : (j : ℕ) (threads : List (List Command)) (records : List (List Record)) → AreThreads j threads records → (t k : ℕ) (r : Record) → record_at records t k ≡ Some r → slice_index_or (slice_index_or (replies_for threads records) t []) k [] ≡ reply_line r
+replies_said : (j : ℕ) (threads : List (List Command)) (records : List (List Record)) → ThreadsHaveRecords j threads records → (t k : ℕ) (r : Record) → record_at records t k ≡ Some r → slice_index_or (slice_index_or (replies_for threads records) t []) k [] ≡ reply_line r
 replies_said j [] [] h t k r at = absurd (cc)
 replies_said j [] (rs ∷ records) h t k r at = absurd h
 replies_said j (cs ∷ threads) [] h t k r at = absurd h
 replies_said j (cs ∷ threads) (rs ∷ records) h zero k r at = lines_said j 1 cs rs h.0 k r at
 replies_said j (cs ∷ threads) (rs ∷ records) h (suc t) k r at = replies_said (j + 1) threads records h.1 t k r at
 
-pub held_joined : (names : Names) (m : ℕ → ℕ) → joined (held_lines names m) ≡ state_text names m
+pub held_joined : (names : Names) (m : ℕ → ℕ) → joined_lines (held_lines names m) ≡ state_text names m
 held_joined [] m = refl
 held_joined (entry ∷ names) m = ap (λ (xs : List ℕ). state_line entry.0 (shown entry.1 m) ++ xs) (held_joined names m)
 
@@ -92,14 +92,14 @@ there (Some r) some = (r, refl)
 
 -- ---- the run
 
-module _ (s : Script) (records : List (List Record)) (order : List Place) (last : Store) (run : IsRun s records order last) where
+module _ (s : Script) (records : List (List Record)) (order : List Place) (last : Store) (run : IsScriptRun s records order last) where
   pub parts_of : Parts
   parts_of = record { replies = replies_for s.threads records; places = order; state = held_lines s.objects (values last) }
 
-  run_places : (p : Place) → Contains order p → IsPlace s.threads p
+  run_places : (p : Place) → Contains order p → IsThreadPlace s.threads p
   run_places p inside = let (r, at) = there (record_at records p.thread p.index) (replays_named s.limit s.threads records (opening_store s) last order run.replays p inside) in place_within s.threads records run.threads p r at
 
-  pub run_each : All (IsPlace s.threads) order
+  pub run_each : All (IsThreadPlace s.threads) order
   run_each k d lt = run_places (slice_index_or order k d) (Contains-get_or order k d lt)
 
   pub run_comes : ComesWhole s parts_of last records
@@ -114,7 +114,7 @@ module _ (s : Script) (records : List (List Record)) (order : List Place) (last 
     };
   }
 
-  pub run_laid : (text : List ℕ) → length order ≡ places_in s.threads → AllReplyLines (replies_for s.threads records) → AllLines (held_lines s.objects (values last)) → text ≡ reply_lines records ++ codes "order\n" ++ order_lines records order ++ codes "state\n" ++ state_text s.objects (values last) → IsLaid s text parts_of
+  pub run_laid : (text : List ℕ) → length order ≡ places_in s.threads → AllReplyLines (replies_for s.threads records) → AllLines (held_lines s.objects (values last)) → text ≡ reply_lines records ++ codes "order\n" ++ order_lines records order ++ codes "state\n" ++ state_text s.objects (values last) → TextIsLaid s text parts_of
   unfolding parts_of
   run_laid text count replies held spelled = record {
     many = replies_many 1 s.threads records run.threads;
@@ -127,11 +127,11 @@ module _ (s : Script) (records : List (List Record)) (order : List Place) (last 
         ∙ ap (λ (c : List ℕ). replies_text (replies_for s.threads records) ++ codes "order\n" ++ places_text s.threads order ++ codes "state\n" ++ c) (sym (held_joined s.objects (values last)));
   }
 
-  pub run_formed : (text : List ℕ) → IsLaid s text parts_of → AllReplies 1 s.threads (replies_for s.threads records) → AreHeld s.objects (held_lines s.objects (values last)) → IsFormed s text parts_of
+  pub run_formed : (text : List ℕ) → TextIsLaid s text parts_of → AllReplies 1 s.threads (replies_for s.threads records) → AreHeld s.objects (held_lines s.objects (values last)) → IsFormed s text parts_of
   unfolding parts_of
   run_formed text laid replies held = record { replies = replies; places = laid.places; count = laid.count; state = held; spelled = laid.spelled }
 
-  pub run_again : IsRun s records parts_of.places last
+  pub run_again : IsScriptRun s records parts_of.places last
   unfolding parts_of
   run_again = run
 
@@ -147,7 +147,7 @@ module _ (s : Script) (records : List (List Record)) (order : List Place) (last 
       last_in (x ∷ xs) zero lt = (x, refl)
       last_in (x ∷ xs) (suc n) lt = last_in xs n (omega arith)
 
-      taken : (j : ℕ) (threads : List (List Command)) (records : List (List Record)) → AreThreads j threads records → (u : ℕ) → u < length threads → {n : ℕ} → ((k : ℕ) (r : Record) → record_at records u k ≡ Some r → k < n) → length (slice_index_or threads u []) + 1 ≤ n
+      taken : (j : ℕ) (threads : List (List Command)) (records : List (List Record)) → ThreadsHaveRecords j threads records → (u : ℕ) → u < length threads → {n : ℕ} → ((k : ℕ) (r : Record) → record_at records u k ≡ Some r → k < n) → length (slice_index_or threads u []) + 1 ≤ n
       taken j [] [] h u lt below = absurd (omega arith)
       taken j [] (rs ∷ records) h u lt below = absurd h
       taken j (cs ∷ threads) [] h u lt below = absurd h

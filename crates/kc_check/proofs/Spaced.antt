@@ -5,7 +5,7 @@ use Rattle.std.specs.Prelude.{IsTrue, codes}
 use Rattle.kc_history.proofs.Ready.{same_or}
 use Rattle.kc_check.proofs.Matched.{not_both}
 use Rattle.kc_check.proofs.Unique.{lacks_append}
-use Rattle.kc_check.specs.Laid.{IsLine, Lacks}
+use Rattle.kc_check.specs.Laid.{IsLine, ByteIsMissing}
 use Rattle.kc_check.specs.Forms.{IsHeld, IsWord}
 use Rattle.kc_check.specs.Reads.{IsNoFront, SaysSpaced, SaysWords, spaced}
 
@@ -191,16 +191,16 @@ held_words name line rest text b e f w = (
 )
 
 -- it is one line
-pub held_is_line : (name line : List ℕ) → Lacks 10 name → IsHeld name line → IsLine line
+pub held_is_line : (name line : List ℕ) → ByteIsMissing 10 name → IsHeld name line → IsLine line
 held_is_line name line lacks h = record { body = name ++ spaced h.words; lacks = lacks_append 10 name (spaced h.words) lacks (all h.words h.each); is = h.spelled }
   where
-    solid : (w : List ℕ) → All (λ b. (b ≢ 32) × (b ≢ 10)) w → Lacks 10 w
+    solid : (w : List ℕ) → All (λ b. (b ≢ 32) × (b ≢ 10)) w → ByteIsMissing 10 w
     solid [] k = tt
     solid (b ∷ w) k = ((k zero b (omega arith)).1, solid w (λ i d lt. k (suc i) d (omega arith)))
 
-    space : Lacks 10 (codes " ")
+    space : ByteIsMissing 10 (codes " ")
     space = ((λ e. (omega arith)), tt)
 
-    all : (ws : List (List ℕ)) → All IsWord ws → Lacks 10 (spaced ws)
+    all : (ws : List (List ℕ)) → All IsWord ws → ByteIsMissing 10 (spaced ws)
     all [] k = tt
     all (w ∷ ws) k = lacks_append 10 (codes " " ++ w) (spaced ws) (lacks_append 10 (codes " ") w space (solid w (k zero w (omega arith)).solid)) (all ws (λ i d lt. k (suc i) d (omega arith)))

@@ -5,7 +5,7 @@ use Rattle.std.proofs.lemmas.List.{take_more, take_more_set, take_all, drop-set-
 use Rattle.std.specs.Global.{Global}
 use Rattle.kc_script_bundle.specs.declared.operation.Command.{Command}
 use Rattle.kc_check.proofs.Parted.{ReadTo, read_more, read_whole}
-use Rattle.kc_check.specs.Forms.{AllReplies, Goes, flat, replies_shapes, thread_shapes}
+use Rattle.kc_check.specs.Forms.{AllReplies, GoesOverLines, flat, replies_shapes, thread_shapes}
 use Rattle.kc_check.specs.Reads.{HaveSpace}
 use Rattle.kc_check.specs.Replays.{commands_of}
 use Rattle.kc_check.specs.Walks.{lines_at, lines_in}
@@ -51,7 +51,7 @@ space_front (suc t) (x ∷ threads) (w ∷ vs) c v lt h = space_front t threads 
 
 -- a thread's replies are read into their list
 pub filled_more : (whole : List ℕ) (threads : List (Vec Command Global)) (t k : ℕ) (c : Vec Command Global) (text : List ℕ) (n : ℕ) (vs : List (Vec ℕ Global)) (lines : Vec ℕ Global) (rest : List ℕ) (m : ℕ) (next : List ℕ) (o : ℕ) → t < length threads → t < length vs → c ≡ get_or threads t c → k ≡ length c.items → ReadTo threads t text n (lines_in whole (take t vs)) rest m
-    → ((threads : List (List Command)) → Goes threads (thread_shapes (t + 1) 1 k) rest m (lines_at whole lines.items) next o) → ReadTo threads (t + 1) text n (lines_in whole (take (t + 1) (set vs t lines))) next o
+    → ((threads : List (List Command)) → GoesOverLines threads (thread_shapes (t + 1) 1 k) rest m (lines_at whole lines.items) next o) → ReadTo threads (t + 1) text n (lines_in whole (take (t + 1) (set vs t lines))) next o
 filled_more whole threads t k c text n vs lines rest m next o lt within at long read goes = read_more whole threads t k c text n (take t vs) (take (t + 1) (set vs t lines)) lines rest m next o lt at long read goes (take_more_set vs t lines within)
 
 pub space_here : (t k : ℕ) (threads : List (Vec Command Global)) (vs : List (Vec ℕ Global)) (c : Vec Command Global) (v : Vec ℕ Global) → t < length threads → HaveSpace (drop t (commands_of threads)) (drop t vs) → c ≡ get_or threads t c → k ≡ length c.items → ((get_or vs t v).items ≡ []) × (k ≤ vec_capacity (get_or vs t v))
@@ -65,7 +65,7 @@ space_behind t threads vs c v lines lt h =
     subst (HaveSpace (drop (t + 1) (commands_of threads))) (sym (drop-set-lt (t + 1) vs t lines (omega arith))) (subst (λ (i : ℕ). HaveSpace (drop i (commands_of threads)) (drop i vs)) one (space_front t threads vs c v lt h).2)
 
 -- all of them
-pub filled_whole : (whole : List ℕ) (threads : List (Vec Command Global)) (t : ℕ) (text : List ℕ) (n : ℕ) (vs : List (Vec ℕ Global)) (rest : List ℕ) (m : ℕ) → length threads ≤ t → length vs ≡ length threads → ReadTo threads t text n (lines_in whole (take t vs)) rest m → Goes (commands_of threads) (replies_shapes 1 (commands_of threads)) text n (flat (lines_in whole vs)) rest m × AllReplies 1 (commands_of threads) (lines_in whole vs)
+pub filled_whole : (whole : List ℕ) (threads : List (Vec Command Global)) (t : ℕ) (text : List ℕ) (n : ℕ) (vs : List (Vec ℕ Global)) (rest : List ℕ) (m : ℕ) → length threads ≤ t → length vs ≡ length threads → ReadTo threads t text n (lines_in whole (take t vs)) rest m → GoesOverLines (commands_of threads) (replies_shapes 1 (commands_of threads)) text n (flat (lines_in whole vs)) rest m × AllReplies 1 (commands_of threads) (lines_in whole vs)
 filled_whole whole threads t text n vs rest m le long read =
     let all : lines_in whole (take t vs) ≡ lines_in whole vs = ap (lines_in whole) (take_all t vs (omega (arith, le, long))) in
     read_whole threads t text n (lines_in whole vs) rest m le (subst (λ (ls : List (List (List ℕ))). ReadTo threads t text n ls rest m) all read)

@@ -5,7 +5,7 @@ use Rattle.std.proofs.lemmas.Bool.{ne_eqb}
 use Rattle.std.proofs.lemmas.List.{length-append, length-drop, take_all}
 use Rattle.std.specs.Io.BufRead.{take_through}
 use Rattle.std.specs.Prelude.{slice_index}
-use Rattle.kc_check.specs.Laid.{IsLine, Lacks}
+use Rattle.kc_check.specs.Laid.{IsLine, ByteIsMissing}
 use Rattle.kc_check.specs.Reads.{IsEndOf}
 use Rattle.kc_check.specs.Walks.{lines_at}
 
@@ -13,7 +13,7 @@ use Rattle.kc_check.specs.Walks.{lines_at}
 goes_on : (b : ℕ) (bs : List ℕ) → b ≢ 10 → take_through 10 (b ∷ bs) ≡ b ∷ take_through 10 bs
 goes_on b bs far = ap (λ t. cond t (b ∷ []) (b ∷ take_through 10 bs)) (ne_eqb b 10 far)
 
-first_body : (body rest : List ℕ) → Lacks 10 body → take_through 10 ((body ++ 10 ∷ []) ++ rest) ≡ body ++ 10 ∷ []
+first_body : (body rest : List ℕ) → ByteIsMissing 10 body → take_through 10 ((body ++ 10 ∷ []) ++ rest) ≡ body ++ 10 ∷ []
 first_body [] rest h = refl
 first_body (b ∷ body) rest h = goes_on b ((body ++ 10 ∷ []) ++ rest) h.0 ∙ ap (λ (xs : List ℕ). b ∷ xs) (first_body body rest h.1)
 
@@ -22,12 +22,12 @@ first_is : (line rest : List ℕ) → IsLine line → take_through 10 (line ++ r
 first_is line rest h = ap (λ (l : List ℕ). take_through 10 (l ++ rest)) h.is ∙ first_body h.body rest h.lacks ∙ sym h.is
 
 -- where none ends
-first_all : (bytes : List ℕ) → Lacks 10 bytes → take_through 10 bytes ≡ bytes
+first_all : (bytes : List ℕ) → ByteIsMissing 10 bytes → take_through 10 bytes ≡ bytes
 first_all [] h = refl
 first_all (b ∷ bytes) h = goes_on b bytes h.0 ∙ ap (λ (xs : List ℕ). b ∷ xs) (first_all bytes h.1)
 
 -- where the first ends
-first_to : (bytes : List ℕ) (end : ℕ) → end < length bytes → Lacks 10 (take end bytes) → slice_index bytes end ≡ 10 → take_through 10 bytes ≡ take (end + 1) bytes
+first_to : (bytes : List ℕ) (end : ℕ) → end < length bytes → ByteIsMissing 10 (take end bytes) → slice_index bytes end ≡ 10 → take_through 10 bytes ≡ take (end + 1) bytes
 first_to [] end lt h e = absurd (omega arith)
 first_to (b ∷ bytes) zero lt h e = ap (λ (x : ℕ). take_through 10 (x ∷ bytes)) e ∙ ap (λ (x : ℕ). x ∷ []) (sym e)
 first_to (b ∷ bytes) (suc end) lt h e = goes_on b bytes h.0 ∙ ap (λ (xs : List ℕ). b ∷ xs) (first_to bytes end (omega arith) h.1 e) ∙ ap (λ (n : ℕ). take n (b ∷ bytes)) (let same : suc (end + 1) ≡ suc end + 1 = omega arith in same)
@@ -36,11 +36,11 @@ first_to (b ∷ bytes) (suc end) lt h e = goes_on b bytes h.0 ∙ ap (λ (xs : L
 rest_of : (text : List ℕ) (start : ℕ) → take (length text - start) (drop start text) ≡ drop start text
 rest_of text start = let long = length-drop start text in take_all (length text - start) (drop start text) (omega (arith, long))
 
-pub line_of : (text : List ℕ) (start end : ℕ) → end < length (take (length text - start) (drop start text)) → Lacks 10 (take end (take (length text - start) (drop start text))) → slice_index (take (length text - start) (drop start text)) end ≡ 10
+pub line_of : (text : List ℕ) (start end : ℕ) → end < length (take (length text - start) (drop start text)) → ByteIsMissing 10 (take end (take (length text - start) (drop start text))) → slice_index (take (length text - start) (drop start text)) end ≡ 10
     → take (end + 1) (take (length text - start) (drop start text)) ≡ take_through 10 (drop start text)
 line_of text start end lt h e = sym (first_to (take (length text - start) (drop start text)) end lt h e) ∙ ap (take_through 10) (rest_of text start)
 
-pub last_of : (text : List ℕ) (start : ℕ) → Lacks 10 (take (length text - start) (drop start text)) → take (length text - start) (drop start text) ≡ take_through 10 (drop start text)
+pub last_of : (text : List ℕ) (start : ℕ) → ByteIsMissing 10 (take (length text - start) (drop start text)) → take (length text - start) (drop start text) ≡ take_through 10 (drop start text)
 last_of text start h = sym (first_all (take (length text - start) (drop start text)) h) ∙ ap (take_through 10) (rest_of text start)
 
 -- what is left behind a line is the end of the text too

@@ -2,7 +2,7 @@
 use Rattle.std.proofs.Common.{◌≡◌, ◌≢◌, ℕ, zero, suc, ◌+◌, ◌<◌, ◌≤◌, List, [], ◌∷◌, ◌++◌, All, length, take, drop, get_or, refl, sym, ap, subst, ◌∙◌, arith, slice_index_or, Vec}
 use Rattle.std.proofs.lemmas.List.{drop_more, take_all}
 use Rattle.std.specs.Global.{Global}
-use Rattle.kc_history.specs.Order.{more}
+use Rattle.kc_history.specs.Order.{one_record_more}
 use Rattle.kc_history.specs.Ends.{AreWellMade}
 use Rattle.kc_history.specs.Records.{footprint_at, lists_of}
 use Rattle.kc_history.specs.RecordsValue.{RecordsValue}
@@ -15,8 +15,8 @@ use Rattle.kc_script_runs.proofs.Determined.{labelled_at}
 use Rattle.kc_check.proofs.Padded.{as_many, blank_made, counts_none, padded_threads}
 use Rattle.kc_check.proofs.Replays.{comes_more, comes_none, kept_counts, kept_none, made_more, place_within, turn_is}
 use Rattle.kc_check.specs.Ages.{IsYoung}
-use Rattle.kc_check.specs.Faults.{Comes, HasToWait, IsOutOfTurn, RepliesElse, StopsAt}
-use Rattle.kc_check.specs.Parts.{IsPlace, said_at}
+use Rattle.kc_check.specs.Faults.{PlacesReplayed, HasToWait, IsOutOfTurn, RepliesElse, StopsAt}
+use Rattle.kc_check.specs.Parts.{IsThreadPlace, said_at}
 use Rattle.kc_check.specs.Replays.{CommitsAt, HaveRoom, WaitsAt, all_kept, all_padded, commands_of, counts}
 use Rattle.kc_check.specs.Walks.{ComesKept}
 
@@ -40,7 +40,7 @@ one_more (x ∷ xs) zero d lt = refl
 one_more {X} (x ∷ xs) (suc i) d lt = ap (λ (ys : List X). x ∷ ys) (one_more xs i d (omega arith))
 
 -- a thread has no more places than commands and an end
-pub index_small : (n : ℕ) (vs : List (Vec Command Global)) (p : Place) → All (λ (v : Vec Command Global). length v.items ≤ n) vs → IsPlace (commands_of vs) p → p.index ≤ n
+pub index_small : (n : ℕ) (vs : List (Vec Command Global)) (p : Place) → All (λ (v : Vec Command Global). length v.items ≤ n) vs → IsThreadPlace (commands_of vs) p → p.index ≤ n
 index_small n vs p few is = at vs p.thread few is.thread is.index
   where
     at : (vs : List (Vec Command Global)) (t : ℕ) → All (λ (v : Vec Command Global). length v.items ≤ n) vs → t < length (commands_of vs) → p.index ≤ length (slice_index_or (commands_of vs) t []) → p.index ≤ n
@@ -51,35 +51,35 @@ index_small n vs p few is = at vs p.thread few is.thread is.index
 module _ (limit : ℕ) (threads : List (List Command)) (replies : List (List (List ℕ))) (first : Store) (places : List Place) where
   -- so many places have come
   pub record WalkedTo (i : ℕ) (now : Store) (vs : List RecordsValue) : Type 0 where
-    pub comes : Comes limit threads replies first (take i places) (counts (lists_of vs)) now (all_padded 1 threads (lists_of vs))
+    pub comes : PlacesReplayed limit threads replies first (take i places) (counts (lists_of vs)) now (all_padded 1 threads (lists_of vs))
     pub room : HaveRoom limit 1 threads vs
     pub young : IsYoung i now
     pub made : AreWellMade (footprint_at (all_padded 1 threads (lists_of vs)))
 
   pub walked_none : (vs : List RecordsValue) → HaveRoom limit 1 threads vs → All (λ (v : RecordsValue). v.items ≡ []) vs → IsYoung 0 first → WalkedTo 0 first vs
   walked_none vs room empty young = record {
-    comes = subst (λ (m : ℕ → ℕ). Comes limit threads replies first [] m first (all_padded 1 threads (lists_of vs))) (sym (counts_none vs empty)) (comes_none limit threads replies first (all_padded 1 threads (lists_of vs)) (padded_threads limit 1 threads vs room));
+    comes = subst (λ (m : ℕ → ℕ). PlacesReplayed limit threads replies first [] m first (all_padded 1 threads (lists_of vs))) (sym (counts_none vs empty)) (comes_none limit threads replies first (all_padded 1 threads (lists_of vs)) (padded_threads limit 1 threads vs room));
     room = room;
     young = young;
     made = blank_made 1 threads vs (as_many limit 1 threads vs room) empty;
   }
 
   pub walked_more : (i : ℕ) (now then : Store) (vs ws : List RecordsValue) (d : Place) → i < length places → WalkedTo i now vs → (get_or places i d).index ≡ counts (lists_of vs) (get_or places i d).thread → (c : CommitsAt limit threads (get_or places i d) now then (all_padded 1 threads (lists_of vs)) (all_padded 1 threads (lists_of ws)))
-      → counts (lists_of ws) ≡ more (get_or places i d).thread (counts (lists_of vs)) → HaveRoom limit 1 threads ws → said_at replies (get_or places i d) ≡ reply_line c.commit → IsYoung (i + 1) then → WalkedTo (i + 1) then ws
+      → counts (lists_of ws) ≡ one_record_more (get_or places i d).thread (counts (lists_of vs)) → HaveRoom limit 1 threads ws → said_at replies (get_or places i d) ≡ reply_line c.commit → IsYoung (i + 1) then → WalkedTo (i + 1) then ws
   walked_more i now then vs ws d lt walked turn c counted room said young =
       let p : Place = get_or places i d in
       let others : List (List Record) = all_padded 1 threads (lists_of ws) in
       let come = comes_more limit threads replies first (take i places) p (counts (lists_of vs)) now then (all_padded 1 threads (lists_of vs)) others walked.comes turn c said in
       let longer : take i places ++ p ∷ [] ≡ take (i + 1) places = sym (one_more places i d lt) ∙ ap (λ (k : ℕ). take k places) (let e : suc i ≡ i + 1 = omega arith in e) in
       record {
-        comes = subst (λ (ps : List Place). Comes limit threads replies first ps (counts (lists_of ws)) then others) longer (subst (λ (m : ℕ → ℕ). Comes limit threads replies first (take i places ++ p ∷ []) m then others) (sym counted) come);
+        comes = subst (λ (ps : List Place). PlacesReplayed limit threads replies first ps (counts (lists_of ws)) then others) longer (subst (λ (m : ℕ → ℕ). PlacesReplayed limit threads replies first (take i places ++ p ∷ []) m then others) (sym counted) come);
         room = room;
         young = young;
         made = made_more limit threads p now then (all_padded 1 threads (lists_of vs)) others c walked.made;
       }
 
-  pub walked_all : (i : ℕ) (now : Store) (vs : List RecordsValue) → length places ≤ i → WalkedTo i now vs → Comes limit threads replies first places (counts (lists_of vs)) now (all_padded 1 threads (lists_of vs))
-  walked_all i now vs le walked = subst (λ (ps : List Place). Comes limit threads replies first ps (counts (lists_of vs)) now (all_padded 1 threads (lists_of vs))) (take_all i places le) walked.comes
+  pub walked_all : (i : ℕ) (now : Store) (vs : List RecordsValue) → length places ≤ i → WalkedTo i now vs → PlacesReplayed limit threads replies first places (counts (lists_of vs)) now (all_padded 1 threads (lists_of vs))
+  walked_all i now vs le walked = subst (λ (ps : List Place). PlacesReplayed limit threads replies first ps (counts (lists_of vs)) now (all_padded 1 threads (lists_of vs))) (take_all i places le) walked.comes
 
   module _ (i : ℕ) (now : Store) (vs : List RecordsValue) (d : Place) (lt : i < length places) (walked : WalkedTo i now vs) where
     stops_at : (Wrong : Place → (ℕ → ℕ) → Store → Type 0) → Wrong (get_or places i d) (counts (lists_of vs)) now → (p : Place) × (front : List Place) × StopsAt limit threads replies first places Wrong p front × (length front ≡ i)
@@ -113,13 +113,13 @@ keeps_all limit threads replies first places i now rs le k = record { whole = k.
 
 -- the place at an index, and how many records its thread has
 pub record Stands (limit : ℕ) (threads : List (List Command)) (rs : List RecordsValue) (p : Place) (long : ℕ) (whole : List RecordsValue) : Type 0 where
-  pub is : IsPlace threads p
+  pub is : IsThreadPlace threads p
   pub first : HaveRoom limit 1 threads whole
   pub kept : rs ≡ all_kept whole
   pub counted : counts (lists_of rs) p.thread ≡ long
   pub whole_counted : counts (lists_of whole) p.thread ≡ long
 
-pub place_stands : (limit : ℕ) (threads : List (List Command)) (places : List Place) (i : ℕ) (d : Place) (rs whole : List RecordsValue) (row : RecordsValue) (long : ℕ) → All (IsPlace threads) places → i < length places → HaveRoom limit 1 threads whole → rs ≡ all_kept whole → row ≡ get_or rs (get_or places i d).thread row → long ≡ length (get_or rs (get_or places i d).thread row).items → Stands limit threads rs (get_or places i d) long whole
+pub place_stands : (limit : ℕ) (threads : List (List Command)) (places : List Place) (i : ℕ) (d : Place) (rs whole : List RecordsValue) (row : RecordsValue) (long : ℕ) → All (IsThreadPlace threads) places → i < length places → HaveRoom limit 1 threads whole → rs ≡ all_kept whole → row ≡ get_or rs (get_or places i d).thread row → long ≡ length (get_or rs (get_or places i d).thread row).items → Stands limit threads rs (get_or places i d) long whole
 place_stands limit threads places i d rs whole row long each lt room kept at is =
     let p : Place = get_or places i d in
     let within = place_within limit threads rs p (record { whole = whole; kept = kept; room = room }) (each i d lt) in

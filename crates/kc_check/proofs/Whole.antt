@@ -22,11 +22,11 @@ use Rattle.kc_script_bundle.specs.declared.operation.Command.{Command}
 use Rattle.kc_script_runs.proofs.Determined.{canonical_has, label_at, labelled_at, place}
 use Rattle.kc_script_runs.proofs.Formed.{run_formed}
 use Rattle.kc_script_runs.proofs.Named.{replays_named}
-use Rattle.kc_script_runs.specs.Labels.{AreThreads, Label, label, labels}
-use Rattle.kc_script_runs.specs.Run.{IsRun, IsText, opening_store}
+use Rattle.kc_script_runs.specs.Labels.{ThreadsHaveRecords, Label, label, labels}
+use Rattle.kc_script_runs.specs.Run.{IsScriptRun, IsRunText, opening_store}
 use Rattle.kc_xt.specs.Meaning.{values}
 use Rattle.kc_check.specs.Faults.{ComesWhole}
-use Rattle.kc_check.specs.Parts.{Parts, AsMany, IsPlace, joined, mark_at, parts_text, place_text, places_text, replies_text}
+use Rattle.kc_check.specs.Parts.{Parts, AsMany, IsThreadPlace, joined_lines, mark_at, parts_text, place_text, places_text, replies_text}
 
 -- ---- labels
 
@@ -57,7 +57,7 @@ labels_are thread number zero (c ∷ cs) le =
 labels_are thread number (suc k) (c ∷ cs) le = labels_are thread (number + 1) k cs (omega arith) ∙ ap (λ m. Some (label_of thread m)) (mark_next number k (length cs))
 
 -- a record's line in the order is that of its place
-pub place_line : (threads : List (List Command)) (p : Place) (r : Record) → IsPlace threads p → label_at 1 threads p.thread p.index ≡ Some (label r) → order_line (Some r) ≡ place_text threads p
+pub place_line : (threads : List (List Command)) (p : Place) (r : Record) → IsThreadPlace threads p → label_at 1 threads p.thread p.index ≡ Some (label r) → order_line (Some r) ≡ place_text threads p
 unfolding label_of
 place_line threads p r is at =
     let cs : List Command = slice_index_or threads p.thread [] in
@@ -76,11 +76,11 @@ there : {X : Type 0} (o : Option X) → IsSome o → (x : X) × (o ≡ Some x)
 there None some = absurd (cc)
 there (Some x) some = (x, refl)
 
-module _ (threads : List (List Command)) (records : List (List Record)) (labelled : AreThreads 1 threads records) where
-  pub order_is : (places : List Place) → All (IsPlace threads) places → ((p : Place) → Contains places p → IsSome (record_at records p.thread p.index)) → order_lines records places ≡ places_text threads places
+module _ (threads : List (List Command)) (records : List (List Record)) (labelled : ThreadsHaveRecords 1 threads records) where
+  pub order_is : (places : List Place) → All (IsThreadPlace threads) places → ((p : Place) → Contains places p → IsSome (record_at records p.thread p.index)) → order_lines records places ≡ places_text threads places
   order_is places each some = flat_same (λ (p : Place). order_line (record_at records p.thread p.index)) (place_text threads) places (λ p inside.
       let (r, at) = there (record_at records p.thread p.index) (some p inside) in
-      ap order_line at ∙ place_line threads p r (All-contains (IsPlace threads) places p each inside) (labelled_at 1 threads records labelled p.thread p.index r at))
+      ap order_line at ∙ place_line threads p r (All-contains (IsThreadPlace threads) places p each inside) (labelled_at 1 threads records labelled p.thread p.index r at))
 
 -- ---- the replies
 
@@ -88,13 +88,13 @@ pub labels_long : (thread number : ℕ) (cs : List Command) → length (labels t
 labels_long thread number [] = refl
 labels_long thread number (c ∷ cs) = let e = labels_long thread (number + 1) cs in omega (arith, e)
 
-thread_said : (rs : List Record) (ls : List (List ℕ)) → length rs ≡ length ls + 1 → ((k : ℕ) (r : Record) → slice_get rs k ≡ Some r → slice_index_or ls k [] ≡ reply_line r) → flat_map reply_line rs ≡ joined ls
+thread_said : (rs : List Record) (ls : List (List ℕ)) → length rs ≡ length ls + 1 → ((k : ℕ) (r : Record) → slice_get rs k ≡ Some r → slice_index_or ls k [] ≡ reply_line r) → flat_map reply_line rs ≡ joined_lines ls
 thread_said [] ls long said = absurd (omega arith)
 thread_said (r ∷ []) [] long said = append-nil (reply_line r) ∙ sym (said zero r refl)
 thread_said (r ∷ q ∷ rs) [] long said = absurd (omega arith)
 thread_said (r ∷ rs) (l ∷ ls) long said = ap₂ (λ (a b : List ℕ). a ++ b) (sym (said zero r refl)) (thread_said rs ls (omega arith) (λ k q at. said (suc k) q at))
 
-pub replies_are : (j : ℕ) (threads : List (List Command)) (records : List (List Record)) (replies : List (List (List ℕ))) → AreThreads j threads records → AsMany threads replies → ((t k : ℕ) (r : Record) → record_at records t k ≡ Some r → slice_index_or (slice_index_or replies t []) k [] ≡ reply_line r) → reply_lines records ≡ replies_text replies
+pub replies_are : (j : ℕ) (threads : List (List Command)) (records : List (List Record)) (replies : List (List (List ℕ))) → ThreadsHaveRecords j threads records → AsMany threads replies → ((t k : ℕ) (r : Record) → record_at records t k ≡ Some r → slice_index_or (slice_index_or replies t []) k [] ≡ reply_line r) → reply_lines records ≡ replies_text replies
 replies_are j [] [] [] h m said = refl
 replies_are j [] [] (ls ∷ replies) h m said = absurd m
 replies_are j [] (rs ∷ records) replies h m said = absurd h
@@ -111,20 +111,20 @@ replies_are j (cs ∷ threads) (rs ∷ records) (ls ∷ replies) h m said =
 -- ---- the text
 
 module _ (s : Script) (parts : Parts) (last : Store) (records : List (List Record)) (whole : ComesWhole s parts last records) (canonical : IsCanonical (footprint_at records) parts.places) where
-  pub whole_run : IsRun s records parts.places last
+  pub whole_run : IsScriptRun s records parts.places last
   whole_run = record { threads = whole.comes.labelled; canonical = canonical; replays = whole.comes.replays }
 
-  pub whole_text : LieFrom 1 s.objects → ((t : ℕ) → CommandsAreOn s.objects (slice_index_or s.threads t [])) → AsMany s.threads parts.replies → All (IsPlace s.threads) parts.places → joined parts.state ≡ state_text s.objects (values last) → IsText s records (parts_text s.threads parts)
+  pub whole_text : LieFrom 1 s.objects → ((t : ℕ) → CommandsAreOn s.objects (slice_index_or s.threads t [])) → AsMany s.threads parts.replies → All (IsThreadPlace s.threads) parts.places → joined_lines parts.state ≡ state_text s.objects (values last) → IsRunText s records (parts_text s.threads parts)
   whole_text lie on many each shown =
       let (contents, stand) = run_formed s records parts.places last lie on whole_run in
       let replies : reply_lines records ≡ replies_text parts.replies = replies_are 1 s.threads records parts.replies whole.comes.labelled many (λ t k r at. whole.comes.said (place t k) (canonical_has records parts.places canonical t k r at) r at) in
       let places : order_lines records parts.places ≡ places_text s.threads parts.places = order_is s.threads records whole.comes.labelled parts.places each (replays_named s.limit s.threads records (opening_store s) last parts.places whole.comes.replays) in
-      let state : joined parts.state ≡ state_lines s.objects contents = shown ∙ all_show s.objects (values last) contents stand in
+      let state : joined_lines parts.state ≡ state_lines s.objects contents = shown ∙ all_show s.objects (values last) contents stand in
       record {
         order = parts.places;
         last = last;
         contents = contents;
         run = whole_run;
         stand = stand;
-        spelled = ap₂ (λ (a b : List ℕ). a ++ codes "order\n" ++ b ++ codes "state\n" ++ joined parts.state) (sym replies) (sym places) ∙ ap (λ c. reply_lines records ++ codes "order\n" ++ order_lines records parts.places ++ codes "state\n" ++ c) state;
+        spelled = ap₂ (λ (a b : List ℕ). a ++ codes "order\n" ++ b ++ codes "state\n" ++ joined_lines parts.state) (sym replies) (sym places) ∙ ap (λ c. reply_lines records ++ codes "order\n" ++ order_lines records parts.places ++ codes "state\n" ++ c) state;
       }

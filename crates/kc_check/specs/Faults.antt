@@ -1,6 +1,6 @@
 -- What is wrong with a text: the first of the tests that fails.
 use Rattle.std.specs.Prelude.{◌≡◌, ◌≢◌, ℕ, ◌+◌, List, [], ◌∷◌, ◌++◌, Some, Contains, length, slice_get, slice_index_or}
-use Rattle.kc_history.specs.Order.{IsCanonical, more}
+use Rattle.kc_history.specs.Order.{IsCanonical, one_record_more}
 use Rattle.kc_history.specs.Records.{record_at, footprint_at}
 use Rattle.kc_history.specs.Text.{reply_line}
 use Rattle.kc_history.specs.declared.record.Place.{Place}
@@ -8,8 +8,8 @@ use Rattle.kc_history.specs.declared.record.Record.{Record}
 use Rattle.kc_model.specs.Store.{Store}
 use Rattle.kc_script_bundle.specs.Script.{Script}
 use Rattle.kc_script_bundle.specs.declared.operation.Command.{Command}
-use Rattle.kc_script_runs.specs.Labels.{AreThreads, label, labels}
-use Rattle.kc_script_runs.specs.Run.{IsCommit, IsText, Replays, meaning_at, opening_store}
+use Rattle.kc_script_runs.specs.Labels.{ThreadsHaveRecords, label, labels}
+use Rattle.kc_script_runs.specs.Run.{IsCommit, IsRunText, Replays, meaning_at, opening_store}
 use Rattle.kc_xt.specs.Commit.{run_on}
 use Rattle.kc_xt.specs.Meaning.{Meaning, retried, values}
 use Rattle.kc_check.specs.Forms.{IsFormed, IsMisformed}
@@ -24,7 +24,7 @@ use Rattle.kc_check.specs.declared.error.CheckWhy.TheVariants as why
 -- each place is the next of its thread
 abbrev pub InTurn : (ℕ → ℕ) → List Place → (ℕ → ℕ) → Type 0
 InTurn n [] m = m ≡ n
-InTurn n (p ∷ ps) m = (p.index ≡ n p.thread) × InTurn (more p.thread n) ps m
+InTurn n (p ∷ ps) m = (p.index ≡ n p.thread) × InTurn (one_record_more p.thread n) ps m
 
 -- the record is of the command, or the end, at the place
 abbrev pub IsLabelled : List (List Command) → Place → Record → Type 0
@@ -32,8 +32,8 @@ IsLabelled threads p r = slice_get (labels (1 + p.thread) 1 (slice_index_or thre
 
 module _ (limit : ℕ) (threads : List (List Command)) (replies : List (List (List ℕ))) (first : Store) where
   -- These places have been replayed from the first store, so many of each thread: each was the next of its thread, and its record is its command's commit there, with the reply that its line says.
-  pub record Comes (places : List Place) (stand : ℕ → ℕ) (now : Store) (records : List (List Record)) : Type 0 where
-    pub labelled : AreThreads 1 threads records
+  pub record PlacesReplayed (places : List Place) (stand : ℕ → ℕ) (now : Store) (records : List (List Record)) : Type 0 where
+    pub labelled : ThreadsHaveRecords 1 threads records
     pub turns : InTurn (λ _. 0) places stand
     pub replays : Replays limit threads records first places now
     pub said : (p : Place) → Contains places p → (r : Record) → record_at records p.thread p.index ≡ Some r → said_at replies p ≡ reply_line r
@@ -66,14 +66,14 @@ module _ (limit : ℕ) (threads : List (List Command)) (replies : List (List (Li
     pub stand : ℕ → ℕ
     pub now : Store
     pub records : List (List Record)
-    pub comes : Comes front stand now records
+    pub comes : PlacesReplayed front stand now records
     pub wrong : Wrong p stand now
 
 module _ (s : Script) (parts : Parts) where
   -- all places come
   pub record ComesWhole (last : Store) (records : List (List Record)) : Type 0 where
     pub stand : ℕ → ℕ
-    pub comes : Comes s.limit s.threads parts.replies (opening_store s) parts.places stand last records
+    pub comes : PlacesReplayed s.limit s.threads parts.replies (opening_store s) parts.places stand last records
 
   -- the place at this index is the first that differs from the canonical order of the records
   pub record IsDisordered (index : ℕ) : Type 0 where
@@ -108,13 +108,13 @@ pub record FailsLater (s : Script) (text : List ℕ) (line : ℕ) (why : CheckWh
   pub fails : FailsIn s parts line why
 
 -- the first test that the text of a script fails, and the line where it does
-abbrev pub Fails : Script → List ℕ → ℕ → CheckWhy → Type 0
-Fails s text line why.Form = IsMisformed s text line
-Fails s text line why = FailsLater s text line why
+abbrev pub CheckFails : Script → List ℕ → ℕ → CheckWhy → Type 0
+CheckFails s text line why.Form = IsMisformed s text line
+CheckFails s text line why = FailsLater s text line why
 
 -- what a check answers is the first test that fails; want of memory says nothing
 abbrev pub FailsFor : Script → List ℕ → CheckError → Type 0
-FailsFor s text (error.Fault line w) = Fails s text line w
+FailsFor s text (error.Fault line w) = CheckFails s text line w
 FailsFor s text error.NoMemory = Unit {0}
 
 -- a fault, and not want of memory
@@ -123,6 +123,6 @@ IsFault (error.Fault line w) = Unit {0}
 IsFault error.NoMemory = ⊥
 
 -- the text is that of some records that are a run of the script
-pub record IsLegal (s : Script) (text : List ℕ) : Type 0 where
+pub record IsLegalText (s : Script) (text : List ℕ) : Type 0 where
   pub records : List (List Record)
-  pub is : IsText s records text
+  pub is : IsRunText s records text

@@ -7,15 +7,15 @@ use Rattle.kc_model.specs.declared.reply.Answer.{Answer}
 use Rattle.kc_script_bundle.specs.Script.{Script, Names as Objects}
 use Rattle.kc_script_bundle.specs.declared.object.Object.{Object}
 use Rattle.kc_script_bundle.specs.declared.operation.Command.{Command}
-use Rattle.kc_script_small.specs.Small.{Fits}
-use Rattle.kc_check.specs.Parts.{Parts, IsPlace, joined, place_text, parts_text, places_in}
+use Rattle.kc_script_small.specs.Small.{AnswerFits}
+use Rattle.kc_check.specs.Parts.{Parts, IsThreadPlace, joined_lines, place_text, parts_text, places_in}
 
 -- ---- the shape of a line
 
 -- the line of a thread's command says an answer
 pub record IsReply (thread number : ℕ) (line : List ℕ) : Type 0 where
   pub says : Answer
-  pub fits : Fits says
+  pub fits : AnswerFits says
   pub spelled : line ≡ decimal thread ++ codes "." ++ decimal number ++ codes " " ++ answer_text says ++ codes "\n"
 
 -- some bytes, none of them a space or a newline
@@ -30,9 +30,9 @@ pub record IsHeld (name line : List ℕ) : Type 0 where
   pub spelled : line ≡ name ++ flat_map (λ word. codes " " ++ word) words ++ codes "\n"
 
 -- the line names a place of the threads
-pub record Names (threads : List (List Command)) (line : List ℕ) : Type 0 where
+pub record NamesPlace (threads : List (List Command)) (line : List ℕ) : Type 0 where
   pub at : Place
-  pub is : IsPlace threads at
+  pub is : IsThreadPlace threads at
   pub spelled : line ≡ place_text threads at
 
 -- what a line has to be: the reply of the thread's command of this number, just these bytes, a place, or what the object of this name holds
@@ -45,7 +45,7 @@ pub data Shape : Type 0 where
 abbrev pub HasShape : List (List Command) → Shape → List ℕ → Type 0
 HasShape threads (answers thread number) line = IsReply thread number line
 HasShape threads (just bytes) line = line ≡ bytes
-HasShape threads place line = Names threads line
+HasShape threads place line = NamesPlace threads line
 HasShape threads (holds name) line = IsHeld name line
 
 -- of so many commands of a thread, numbered from here on
@@ -80,9 +80,9 @@ abbrev pub IsMisformed : Script → List ℕ → ℕ → Type 0
 IsMisformed s text line = FailsAt s.threads (shapes s) text 1 line
 
 -- lines of these shapes come, and lead from a text and a number to the rest and its number
-pub record Goes (threads : List (List Command)) (ks : List Shape) (text : List ℕ) (n : ℕ) (lines : List (List ℕ)) (rest : List ℕ) (m : ℕ) : Type 0 where
+pub record GoesOverLines (threads : List (List Command)) (ks : List Shape) (text : List ℕ) (n : ℕ) (lines : List (List ℕ)) (rest : List ℕ) (m : ℕ) : Type 0 where
   pub shaped : AreShaped threads ks lines
-  pub spelled : text ≡ joined lines ++ rest
+  pub spelled : text ≡ joined_lines lines ++ rest
   pub number : m ≡ n + length lines
 
 -- the lines of lists of lines
@@ -112,7 +112,7 @@ AreHeld (entry ∷ names) [] = ⊥
 -- the text has the form of a text of the script, and these are its parts
 pub record IsFormed (s : Script) (text : List ℕ) (parts : Parts) : Type 0 where
   pub replies : AllReplies 1 s.threads parts.replies
-  pub places : All (IsPlace s.threads) parts.places
+  pub places : All (IsThreadPlace s.threads) parts.places
   pub count : length parts.places ≡ places_in s.threads
   pub state : AreHeld s.objects parts.state
   pub spelled : text ≡ parts_text s.threads parts

@@ -14,7 +14,7 @@ use Rattle.kc_script_bundle.specs.declared.operation.Command.{Command}
 use Rattle.kc_script_runs.specs.Run.{opening_store}
 use Rattle.kc_check.specs.Ages.{IsYoung}
 use Rattle.kc_check.specs.Faults.{FailsIn}
-use Rattle.kc_check.specs.Parts.{AsMany, IsPlace, Parts, place_number, places_in, reply_number}
+use Rattle.kc_check.specs.Parts.{AsMany, IsThreadPlace, Parts, place_number, places_in, reply_number}
 use Rattle.kc_check.specs.Replays.{AllCanAsk, HaveRoom}
 use Rattle.kc_check.specs.Walks.{lines_in, now_of}
 use Rattle.kc_check.specs.declared.error.CheckError.{CheckError}
@@ -27,7 +27,7 @@ abbrev pub parts_of : List ℕ → List (Vec ℕ Global) → List Place → List
 parts_of text replies places state = record { replies = lines_in text replies; places = places; state = now_of state }
 
 -- the store has opened, and there is room for the footprint of each record
-pub record IsSound (s : Script) (threads : List (Vec Command Global)) (cells : List Cell) (records : List RecordsValue) : Type 0 where
+pub record IsReadyToReplay (s : Script) (threads : List (Vec Command Global)) (cells : List Cell) (records : List RecordsValue) : Type 0 where
   pub opens : store_of cells ≡ opening_store s
   pub size : length cells ≡ next_from 1 s.objects
   pub lies : LiesInOrder s
@@ -41,10 +41,10 @@ pub record IsSound (s : Script) (threads : List (Vec Command Global)) (cells : L
   pub young : IsYoung 0 (store_of cells)
 
 -- as many lines as the script wants, and places of its threads
-pub record IsSaid (s : Script) (parts : Parts) : Type 0 where
+pub record PartsAreSaid (s : Script) (parts : Parts) : Type 0 where
   pub many : AsMany s.threads parts.replies
   pub long : length parts.replies ≡ length s.threads
-  pub places : All (IsPlace s.threads) parts.places
+  pub places : All (IsThreadPlace s.threads) parts.places
   pub count : length parts.places ≡ places_in s.threads
   pub objects : length parts.state ≡ length s.objects
   pub state_few : length parts.state ≤ 65536
@@ -53,10 +53,10 @@ abbrev pub FailsWith : Script → Parts → CheckError → Type 0
 FailsWith s parts (error.Fault line w) = FailsIn s parts line w
 FailsWith s parts error.NoMemory = ⊥
 
-abbrev pub nowhere : Place
-nowhere = record { thread = 0; index = 0 }
+abbrev pub no_place : Place
+no_place = record { thread = 0; index = 0 }
 
 -- the line of what stopped a walk
 abbrev pub stop_number : List (List Command) → List Place → ℕ → CheckWhy → ℕ
-stop_number threads places index why.Reply = reply_number threads (get_or places index nowhere)
+stop_number threads places index why.Reply = reply_number threads (get_or places index no_place)
 stop_number threads places index other = place_number threads index

@@ -6,8 +6,8 @@ use Rattle.kc_script_bundle.specs.Script.{Names, Script}
 use Rattle.kc_script_bundle.specs.declared.object.Object.{Object}
 use Rattle.kc_script_bundle.specs.declared.operation.Command.{Command}
 use Rattle.kc_check.specs.Forms.{FailsAt, IsReply, IsWord, LacksLine, Shape, shapes}
-use Rattle.kc_script_small.specs.Small.{Fits, ItemFits}
-use Rattle.kc_check.specs.Laid.{Lacks}
+use Rattle.kc_script_small.specs.Small.{AnswerFits, ItemFits}
+use Rattle.kc_check.specs.Laid.{ByteIsMissing}
 use Rattle.kc_check.specs.Parts.{mark_at}
 use Rattle.kc_history.specs.Text.{answer_text, item_text, items_text, mark_text}
 use Rattle.kc_model.specs.declared.reply.Answer.{Answer}
@@ -45,7 +45,7 @@ pub record SayItems (most : ℕ) (text : List ℕ) : Type 0 where
 
 -- it is what an answer says that fits
 abbrev pub SaysAnswer : List ℕ → Type 0
-SaysAnswer text = (a : Answer) × Fits a × (text ≡ answer_text a)
+SaysAnswer text = (a : Answer) × AnswerFits a × (text ≡ answer_text a)
 
 -- the bytes don't begin so
 abbrev pub IsNoFront : List ℕ → List ℕ → Type 0
@@ -82,7 +82,7 @@ FailsForm s text e = FailsSo s.threads (shapes s) text 1 e
 
 -- no name has a newline
 abbrev pub HaveNames : Names → Type 0
-HaveNames names = All (λ (entry : List ℕ × Object). Lacks 10 entry.0) names
+HaveNames names = All (λ (entry : List ℕ × Object). ByteIsMissing 10 entry.0) names
 
 -- what is left lies at the end of the text
 abbrev pub IsEndOf : List ℕ → List ℕ → Type 0

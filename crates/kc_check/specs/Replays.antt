@@ -18,7 +18,7 @@ use Rattle.kc_model.specs.declared.reply.Reply.TheVariants as reply
 use Rattle.kc_script_bundle.specs.Meaning.{CommandIsFit}
 use Rattle.kc_script_bundle.specs.declared.operation.Command.{Command}
 use Rattle.kc_script_runs.specs.Ask.{ask_end}
-use Rattle.kc_script_runs.specs.Labels.{Label, label, labels, AreThreads}
+use Rattle.kc_script_runs.specs.Labels.{Label, label, labels, ThreadsHaveRecords}
 use Rattle.kc_script_runs.specs.Run.{IsCommit, meaning_at}
 use Rattle.kc_script_runs.specs.Threads.{meanings}
 use Rattle.kc_xt.specs.Commit.{Answers, run_on}
@@ -56,12 +56,12 @@ AreFirst [] (r ∷ rs) = ⊥
 AreFirst (l ∷ ls) (r ∷ rs) = (label r ≡ l) × AreFirst ls rs
 
 -- the records so far are of the threads' first commands, and there is room for the footprints of the others, of so many locations each
-abbrev pub HasRoom : ℕ → ℕ → List Command → RecordsValue → Type 0
-HasRoom limit thread cs v = AreFirst (labels thread 1 cs) v.items × (length v.items + v.bare ≡ length cs + 1) × (v.limit ≡ limit) × (v.spare ≡ 0)
+abbrev pub HasRoomForRecords : ℕ → ℕ → List Command → RecordsValue → Type 0
+HasRoomForRecords limit thread cs v = AreFirst (labels thread 1 cs) v.items × (length v.items + v.bare ≡ length cs + 1) × (v.limit ≡ limit) × (v.spare ≡ 0)
 
 abbrev pub HaveRoom : ℕ → ℕ → List (List Command) → List RecordsValue → Type 0
 HaveRoom limit thread [] [] = Unit {0}
-HaveRoom limit thread (cs ∷ threads) (v ∷ vs) = HasRoom limit thread cs v × HaveRoom limit (thread + 1) threads vs
+HaveRoom limit thread (cs ∷ threads) (v ∷ vs) = HasRoomForRecords limit thread cs v × HaveRoom limit (thread + 1) threads vs
 HaveRoom limit thread [] (v ∷ vs) = ⊥
 HaveRoom limit thread (cs ∷ threads) [] = ⊥
 
@@ -92,7 +92,7 @@ TakesOne limit v = (v.spare ≡ 0) × (0 < v.bare) × (v.limit ≡ limit)
 -- ---- a replay
 
 -- on a store it is answered so, and leads to this store with this footprint
-pub record Commits (m : Meaning) (s t : Store) (a : Answer) (f : Footprint) : Type 0 where
+pub record CommitsInReplay (m : Meaning) (s t : Store) (a : Answer) (f : Footprint) : Type 0 where
   pub finds : Finds f s
   pub answers : Answers m a f
   pub made : CanStand f
@@ -103,10 +103,10 @@ abbrev pub TouchesFew : ℕ → Meaning → Type 0
 TouchesFew limit m = (s : Store) → length (touched_after [] (run_on m s).touches) ≤ limit
 
 -- the commit's footprint stands behind the others, and this is the head of its record
-pub record Adds (m : Meaning) (s t : Store) (thread : ℕ) (mark : Mark) (h : Head) (old new : RecordsValue) : Type 0 where
+pub record AddsRecord (m : Meaning) (s t : Store) (thread : ℕ) (mark : Mark) (h : Head) (old new : RecordsValue) : Type 0 where
   pub answer : Answer
   pub footprint : Footprint
-  pub commits : Commits m s t answer footprint
+  pub commits : CommitsInReplay m s t answer footprint
   pub head : h ≡ record { thread = thread; mark = mark; answer = answer }
   pub items : new.items ≡ old.items ++ record_of blank_head footprint ∷ []
   pub spare : new.spare ≡ old.spare
@@ -119,7 +119,7 @@ pub record CommitsIn (limit thread : ℕ) (commands : List Command) (s t : Store
   pub means : slice_get (meanings limit thread commands) (length old.items) ≡ Some meaning
   pub mark : Mark
   pub labelled : slice_get (labels thread 1 commands) (length old.items) ≡ Some (record { thread = thread; mark = mark })
-  pub adds : Adds meaning s t thread mark h old new
+  pub adds : AddsRecord meaning s t thread mark h old new
 
 -- what is meant at an index has to wait
 pub record WaitsIn (limit thread : ℕ) (commands : List Command) (index : ℕ) (s : Store) : Type 0 where
@@ -152,7 +152,7 @@ pub record CommitsAt (limit : ℕ) (threads : List (List Command)) (p : Place) (
   pub commits : IsCommit meaning s commit
   pub made : CanStand commit.footprint
   pub others : (q : Place) → q ≢ p → record_at new q.thread q.index ≡ record_at old q.thread q.index
-  pub labelled : AreThreads 1 threads new
+  pub labelled : ThreadsHaveRecords 1 threads new
   pub store : t ≡ after commit.footprint s
 
 -- what is meant at a place has to wait

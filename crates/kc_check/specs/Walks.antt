@@ -9,7 +9,7 @@ use Rattle.kc_history.specs.RecordsValue.{RecordsValue}
 use Rattle.kc_history.specs.declared.record.Place.{Place}
 use Rattle.kc_model.specs.Store.{Store}
 use Rattle.kc_script_bundle.specs.declared.operation.Command.{Command}
-use Rattle.kc_check.specs.Faults.{Comes, HasToWait, IsOutOfTurn, RepliesElse, StopsAt}
+use Rattle.kc_check.specs.Faults.{PlacesReplayed, HasToWait, IsOutOfTurn, RepliesElse, StopsAt}
 use Rattle.kc_check.specs.Replays.{HaveRoom, all_kept, all_padded, counts}
 use Rattle.kc_check.specs.declared.error.CheckWhy.{CheckWhy}
 use Rattle.kc_check.specs.declared.error.CheckWhy.TheVariants as why
@@ -37,6 +37,6 @@ StopsFor limit threads replies first places index other = ⊥
 pub record ComesKept (limit : ℕ) (threads : List (List Command)) (replies : List (List (List ℕ))) (first : Store) (places : List Place) (last : Store) (rs : List RecordsValue) : Type 0 where
   pub whole : List RecordsValue
   pub kept : rs ≡ all_kept whole
-  pub comes : Comes limit threads replies first places (counts (lists_of whole)) last (all_padded 1 threads (lists_of whole))
+  pub comes : PlacesReplayed limit threads replies first places (counts (lists_of whole)) last (all_padded 1 threads (lists_of whole))
   pub room : HaveRoom limit 1 threads whole
   pub made : AreWellMade (footprint_at (all_padded 1 threads (lists_of whole)))

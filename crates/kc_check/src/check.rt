@@ -7,13 +7,13 @@ ghost use Rattle.kc_history.specs.Records.{footprint_at, lists_of};
 ghost use Rattle.kc_model.specs.Store.{store_of};
 ghost use Rattle.kc_model.specs.declared.footprint.TheConstants.{LAST_VERSION};
 ghost use Rattle.kc_script_bundle.specs.Script.{script_of, names_of, CellsWithin};
-ghost use Rattle.kc_script_runs.specs.Labels.{AreThreads};
+ghost use Rattle.kc_script_runs.specs.Labels.{ThreadsHaveRecords};
 ghost use Rattle.kc_script_runs.specs.Run.{opening_store};
 ghost use Rattle.kc_check.specs.Ages.{IsYoung};
 ghost use Rattle.kc_script.specs.Spells.{Spells};
-ghost use Rattle.kc_check.specs.Faults.{FailsFor, FailsIn, IsFault, IsLegal};
-ghost use Rattle.kc_check.specs.Judged.{FailsWith, IsSaid, IsSound, parts_of, stop_number};
-ghost use Rattle.kc_check.specs.Parts.{IsPlace, commands_in, parts_text, places_in, reply_number};
+ghost use Rattle.kc_check.specs.Faults.{FailsFor, FailsIn, IsFault, IsLegalText};
+ghost use Rattle.kc_check.specs.Judged.{FailsWith, PartsAreSaid, IsReadyToReplay, parts_of, stop_number};
+ghost use Rattle.kc_check.specs.Parts.{IsThreadPlace, commands_in, parts_text, places_in, reply_number};
 ghost use Rattle.kc_check.specs.Replays.{AllCanAsk, commands_of};
 
 use crate::error::{CheckError, CheckWhy};
@@ -53,9 +53,9 @@ pub(crate) struct Said<'a> {
 pub fn check_text(alloc: Global, bundle: &Bundle, text: &[u8]) -> Result<(), CheckError>
     requires spelled { (bytes : List ℕ) × Spells bytes (script_of bundle.now) }
     requires short { length text.now ≤ MOST_TEXT }
-    ensures legal { IfOk result (λ _. IsLegal (script_of bundle.now) text.now) }
+    ensures legal { IfOk result (λ _. IsLegalText (script_of bundle.now) text.now) }
     ensures fault { IfErr result (FailsFor (script_of bundle.now) text.now) }
-    ensures refuses { IfErr result (λ e. IsFault e → IsLegal (script_of bundle.now) text.now → ⊥) }
+    ensures refuses { IfErr result (λ e. IsFault e → IsLegalText (script_of bundle.now) text.now → ⊥) }
 {
     make_tests(alloc, bundle, text)
 }
@@ -64,7 +64,7 @@ pub fn check_text(alloc: Global, bundle: &Bundle, text: &[u8]) -> Result<(), Che
 fn make_tests(alloc: Global, bundle: &Bundle, text: &[u8]) -> Result<(), CheckError>
     requires spelled { (bytes : List ℕ) × Spells bytes (script_of bundle.now) }
     requires short { length text.now ≤ MOST_TEXT }
-    ensures legal { IfOk result (λ _. IsLegal (script_of bundle.now) text.now) }
+    ensures legal { IfOk result (λ _. IsLegalText (script_of bundle.now) text.now) }
     ensures fault { IfErr result (FailsFor (script_of bundle.now) text.now) }
 {
     let values = opening(alloc, bundle)?;
@@ -86,11 +86,11 @@ fn judge(
     records: &mut [Records],
     room: &mut Room,
 ) -> Result<(), CheckError>
-    requires sound { IsSound (script_of bundle.now) bundle.now.threads.items store.old records.old }
-    requires said { IsSaid (script_of bundle.now) (parts_of text.now said.now.replies.items said.now.places.items said.now.state.items) }
+    requires sound { IsReadyToReplay (script_of bundle.now) bundle.now.threads.items store.old records.old }
+    requires said { PartsAreSaid (script_of bundle.now) (parts_of text.now said.now.replies.items said.now.places.items said.now.state.items) }
     requires threads { length records.old ≤ room.old.threads }
     requires room { places_in (script_of bundle.now).threads ≤ room.old.records }
-    ensures legal { IfOk result (λ _. IsLegal (script_of bundle.now) (parts_text (script_of bundle.now).threads (parts_of text.now said.now.replies.items said.now.places.items said.now.state.items))) }
+    ensures legal { IfOk result (λ _. IsLegalText (script_of bundle.now) (parts_text (script_of bundle.now).threads (parts_of text.now said.now.replies.items said.now.places.items said.now.state.items))) }
     ensures fails { IfErr result (FailsWith (script_of bundle.now) (parts_of text.now said.now.replies.items said.now.places.items said.now.state.items)) }
 {
     let commands = commands_in(&bundle.threads);
@@ -132,7 +132,7 @@ fn line_of(threads: &[Vec<Command>], commands: u32, places: &[Place], stopped: S
     requires short { All (λ v. length v.items ≤ MOST_COMMANDS) threads.now }
     requires commands { commands ≡ commands_in (commands_of threads.now) }
     requires most { commands ≤ 65536 }
-    requires places { All (IsPlace (commands_of threads.now)) places.now }
+    requires places { All (IsThreadPlace (commands_of threads.now)) places.now }
     requires many { length places.now ≤ 65552 }
     requires index { stopped.index < length places.now }
     ensures { result ≡ stop_number (commands_of threads.now) places.now stopped.index stopped.why }
@@ -147,7 +147,7 @@ fn line_of(threads: &[Vec<Command>], commands: u32, places: &[Place], stopped: S
 fn reply_line(threads: &[Vec<Command>], place: Place) -> u32
     requires few { length threads.now ≤ MOST_THREADS }
     requires short { All (λ v. length v.items ≤ MOST_COMMANDS) threads.now }
-    requires place { IsPlace (commands_of threads.now) place }
+    requires place { IsThreadPlace (commands_of threads.now) place }
     ensures { result ≡ reply_number (commands_of threads.now) place }
 {
     let before = commands_in(&threads[..place.thread as usize]);

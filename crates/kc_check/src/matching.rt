@@ -1,8 +1,8 @@
 //! Whether what is written is what is expected.
 
 ghost use Rattle.std.specs.Prelude.{◌≡◌, ◌↔◌, ◌&&◌, ◌==◌, IsTrue, None, length, true};
-ghost use Rattle.kc_history.specs.Text.{bare, reply_line};
-ghost use Rattle.kc_check.specs.Matched.{Matches};
+ghost use Rattle.kc_history.specs.Text.{bare_record, reply_line};
+ghost use Rattle.kc_check.specs.Matched.{MatchesPiece};
 
 use kc_history::{Head, write_reply_line};
 use kc_model::{Failed, Sink};
@@ -46,7 +46,7 @@ impl<'a> Sink for Matching<'a> {
 
     ghost faults = { λ s. 0 };
 
-    ghost write_gives = { Matches };
+    ghost write_gives = { MatchesPiece };
 
     fn write(&mut self, buf: &[u8]) -> Result<usize, Failed> {
         match self.left.strip_prefix(buf) {
@@ -59,7 +59,7 @@ impl<'a> Sink for Matching<'a> {
 
 /// Whether the line is what a text says of the record with this head: of an end nothing.
 pub(crate) fn is_reply(line: &[u8], head: &Head) -> bool
-    ensures { IsTrue result ↔ (line.now ≡ reply_line (bare head.now)) }
+    ensures { IsTrue result ↔ (line.now ≡ reply_line (bare_record head.now)) }
 {
     let mut sink = Matching::new(line);
     if write_reply_line(head, &mut sink).is_err() {

@@ -4,10 +4,10 @@ ghost use Rattle.std.specs.Prelude.{◌≡◌, ◌+◌, ◌++◌, ◌<◌, ◌�
 ghost use Rattle.kc_script_bundle.specs.Script.{names_of, script_of};
 ghost use Rattle.kc_script_bundle.specs.declared.bundle.TheConstants.{MOST_COMMANDS, MOST_THREADS};
 ghost use Rattle.kc_script_bundle.specs.declared.operation.Command.{Command as Asked};
-ghost use Rattle.kc_check.specs.Forms.{AllReplies, Goes, IsFormed, IsHeld, IsReply, flat, holds as any_held, just as just_bytes, place as any_place, replies_shapes, thread_shapes};
+ghost use Rattle.kc_check.specs.Forms.{AllReplies, GoesOverLines, IsFormed, IsHeld, IsReply, flat, holds as any_held, just as just_bytes, place as any_place, replies_shapes, thread_shapes};
 ghost use Rattle.kc_check.specs.Judged.{parts_of};
-ghost use Rattle.kc_check.specs.Laid.{IsLine, Lacks};
-ghost use Rattle.kc_check.specs.Parts.{IsPlace, place_text, places_in};
+ghost use Rattle.kc_check.specs.Laid.{IsLine, ByteIsMissing};
+ghost use Rattle.kc_check.specs.Parts.{IsThreadPlace, place_text, places_in};
 ghost use Rattle.kc_check.specs.Reads.{FailsForm, FailsHowever, HaveNames, HaveSpace, IsEndOf, LacksHere, LacksReply};
 ghost use Rattle.kc_check.specs.Replays.{commands_of};
 ghost use Rattle.kc_check.specs.Walks.{lines_at, lines_in, now_of};
@@ -55,7 +55,7 @@ fn read_place(rest: &mut Rest, threads: &[Vec<Command>]) -> Result<Place, CheckE
     requires few { length threads.now ≤ MOST_THREADS }
     requires short { All (λ v. length v.items ≤ MOST_COMMANDS) threads.now }
     requires room { rest.old.number + length rest.old.bytes.now < 2 ^ 32 }
-    ensures is { IfOk result (λ p. IsPlace (commands_of threads.now) p) }
+    ensures is { IfOk result (λ p. IsThreadPlace (commands_of threads.now) p) }
     ensures next { IfOk result (λ p. rest.old.bytes.now ≡ place_text (commands_of threads.now) p ++ rest.new.bytes.now) }
     ensures number { IfOk result (λ p. rest.new.number ≡ rest.old.number + 1) }
     ensures room { IfOk result (λ p. rest.new.number + length rest.new.bytes.now < 2 ^ 32) }
@@ -73,7 +73,7 @@ fn read_place(rest: &mut Rest, threads: &[Vec<Command>]) -> Result<Place, CheckE
 
 // The next line, if it is the name and words behind it.
 fn read_held<'a>(rest: &mut Rest<'a>, name: &[u8]) -> Result<&'a [u8], CheckError>
-    requires name { Lacks 10 name.now }
+    requires name { ByteIsMissing 10 name.now }
     requires room { rest.old.number + length rest.old.bytes.now < 2 ^ 32 }
     ensures is { IfOk result (λ line. IsHeld name.now line.now) }
     ensures next { IfOk result (λ line. rest.old.bytes.now ≡ line.now ++ rest.new.bytes.now) }
@@ -126,7 +126,7 @@ fn read_thread(
     requires end { IsEndOf text.now rest.old.bytes.now }
     requires long { length text.now < 2 ^ 32 }
     requires room { rest.old.number + length rest.old.bytes.now < 2 ^ 32 }
-    ensures goes { IfOk result (λ _. (threads : List (List Asked)) → Goes threads (thread_shapes thread 1 commands) rest.old.bytes.now rest.old.number (lines_at text.now starts.new.items) rest.new.bytes.now rest.new.number) }
+    ensures goes { IfOk result (λ _. (threads : List (List Asked)) → GoesOverLines threads (thread_shapes thread 1 commands) rest.old.bytes.now rest.old.number (lines_at text.now starts.new.items) rest.new.bytes.now rest.new.number) }
     ensures end { IfOk result (λ _. IsEndOf text.now rest.new.bytes.now) }
     ensures room { IfOk result (λ _. rest.new.number + length rest.new.bytes.now < 2 ^ 32) }
     ensures fails { IfErr result (λ e. (threads : List (List Asked)) → FailsHowever threads (thread_shapes thread 1 commands) rest.old.bytes.now rest.old.number e) }
@@ -152,7 +152,7 @@ fn read_threads(
     requires short { All (λ v. length v.items ≤ MOST_COMMANDS) threads.now }
     requires space { HaveSpace (commands_of threads.now) replies.old }
     requires room { rest.old.number + length rest.old.bytes.now < 2 ^ 32 }
-    ensures goes { IfOk result (λ _. Goes (commands_of threads.now) (replies_shapes 1 (commands_of threads.now)) rest.old.bytes.now rest.old.number (flat (lines_in text.now replies.new)) rest.new.bytes.now rest.new.number) }
+    ensures goes { IfOk result (λ _. GoesOverLines (commands_of threads.now) (replies_shapes 1 (commands_of threads.now)) rest.old.bytes.now rest.old.number (flat (lines_in text.now replies.new)) rest.new.bytes.now rest.new.number) }
     ensures replies { IfOk result (λ _. AllReplies 1 (commands_of threads.now) (lines_in text.now replies.new)) }
     ensures size { length replies.new ≡ length replies.old }
     ensures room { IfOk result (λ _. rest.new.number + length rest.new.bytes.now < 2 ^ 32) }
@@ -177,8 +177,8 @@ fn read_places(
     requires empty { places.old.items ≡ [] }
     requires space { count ≤ vec_capacity places.old }
     requires room { rest.old.number + length rest.old.bytes.now < 2 ^ 32 }
-    ensures goes { IfOk result (λ _. Goes (commands_of threads.now) (replicate count any_place) rest.old.bytes.now rest.old.number (map (place_text (commands_of threads.now)) places.new.items) rest.new.bytes.now rest.new.number) }
-    ensures places { IfOk result (λ _. All (IsPlace (commands_of threads.now)) places.new.items) }
+    ensures goes { IfOk result (λ _. GoesOverLines (commands_of threads.now) (replicate count any_place) rest.old.bytes.now rest.old.number (map (place_text (commands_of threads.now)) places.new.items) rest.new.bytes.now rest.new.number) }
+    ensures places { IfOk result (λ _. All (IsThreadPlace (commands_of threads.now)) places.new.items) }
     ensures count { IfOk result (λ _. length places.new.items ≡ count) }
     ensures room { IfOk result (λ _. rest.new.number + length rest.new.bytes.now < 2 ^ 32) }
     ensures fails { IfErr result (FailsHowever (commands_of threads.now) (replicate count any_place) rest.old.bytes.now rest.old.number) }
@@ -200,7 +200,7 @@ fn read_state<'a>(
     requires empty { lines.old.items ≡ [] }
     requires space { length (names_of bundle.now.objects) ≤ vec_capacity lines.old }
     requires room { rest.old.number + length rest.old.bytes.now < 2 ^ 32 }
-    ensures goes { IfOk result (λ _. (threads : List (List Asked)) → Goes threads (map (λ entry. any_held entry.0) (names_of bundle.now.objects)) rest.old.bytes.now rest.old.number (now_of lines.new.items) rest.new.bytes.now rest.new.number) }
+    ensures goes { IfOk result (λ _. (threads : List (List Asked)) → GoesOverLines threads (map (λ entry. any_held entry.0) (names_of bundle.now.objects)) rest.old.bytes.now rest.old.number (now_of lines.new.items) rest.new.bytes.now rest.new.number) }
     ensures fails { IfErr result (λ e. (threads : List (List Asked)) → FailsHowever threads (map (λ entry. any_held entry.0) (names_of bundle.now.objects)) rest.old.bytes.now rest.old.number e) }
 {
     for i in 0..bundle.objects.len() {

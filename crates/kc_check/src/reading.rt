@@ -3,9 +3,9 @@
 ghost use Rattle.std.specs.Prelude.{◌≡◌, ◌++◌, MatchOption, codes, decimal, ◌<◌, ◌≤◌, ◌^◌, ◌↔◌, All, IfNone, IfSome, IsTrue, length, take, slice_index};
 ghost use Rattle.kc_history.specs.Text.{mark_text};
 ghost use Rattle.kc_script_bundle.specs.declared.bundle.TheConstants.{MOST_COMMANDS, MOST_THREADS};
-ghost use Rattle.kc_check.specs.Forms.{IsHeld, IsReply, Names};
-ghost use Rattle.kc_check.specs.Laid.{Lacks};
-ghost use Rattle.kc_check.specs.Parts.{IsPlace, mark_at, place_text};
+ghost use Rattle.kc_check.specs.Forms.{IsHeld, IsReply, NamesPlace};
+ghost use Rattle.kc_check.specs.Laid.{ByteIsMissing};
+ghost use Rattle.kc_check.specs.Parts.{IsThreadPlace, mark_at, place_text};
 ghost use Rattle.kc_check.specs.Reads.{IsNoFront, IsPlainNumber, NamesNone, SayItems, SaysAnswer, SaysItem, SaysSpaced, SaysWords};
 ghost use Rattle.kc_check.specs.Replays.{commands_of};
 
@@ -143,9 +143,9 @@ fn index_of(rest: &[u8], commands: u32) -> Option<u32>
 pub(crate) fn place_of(line: &[u8], threads: &[Vec<Command>]) -> Option<Place>
     requires few { length threads.now ≤ MOST_THREADS }
     requires short { All (λ v. length v.items ≤ MOST_COMMANDS) threads.now }
-    ensures some { IfSome result (λ p. IsPlace (commands_of threads.now) p) }
+    ensures some { IfSome result (λ p. IsThreadPlace (commands_of threads.now) p) }
     ensures spelled { IfSome result (λ p. line.now ≡ place_text (commands_of threads.now) p) }
-    ensures none { IfNone result (Names (commands_of threads.now) line.now → ⊥) }
+    ensures none { IfNone result (NamesPlace (commands_of threads.now) line.now → ⊥) }
 {
     let Some(dot) = first_of(line, b'.') else {
         return None;

@@ -9,8 +9,8 @@ ghost use Rattle.kc_script_bundle.specs.declared.bundle.TheConstants.{MOST_COMMA
 ghost use Rattle.kc_xt.specs.Commit.{run_on};
 ghost use Rattle.kc_xt.specs.Meaning.{limited, retried};
 ghost use Rattle.kc_check.specs.Ages.{IsYoung};
-ghost use Rattle.kc_check.specs.Parts.{IsPlace};
-ghost use Rattle.kc_check.specs.Replays.{Adds, AddsAt, AllCanAsk, CanAsk, Commits, CommitsIn, KeepFirst, TakesOne, TouchesFew, WaitsAt, WaitsIn, commands_of, counts};
+ghost use Rattle.kc_check.specs.Parts.{IsThreadPlace};
+ghost use Rattle.kc_check.specs.Replays.{AddsRecord, AddsAt, AllCanAsk, CanAsk, CommitsInReplay, CommitsIn, KeepFirst, TakesOne, TouchesFew, WaitsAt, WaitsIn, commands_of, counts};
 
 use kc_history::{Head, Mark, Place, Records};
 use kc_loc::LocOp;
@@ -58,7 +58,7 @@ fn commit_to<T: Transact>(
     requires within { T.end transaction.now ≤ length store.old }
     requires young { IsYoung age (store_of store.old) }
     requires few { age < LAST_VERSION }
-    ensures commits { IfSome result (λ a. Commits (limited (T.most transaction.now) (T.meaning transaction.now)) (store_of store.old) (store_of store.new) a desk.new.footprint) }
+    ensures commits { IfSome result (λ a. CommitsInReplay (limited (T.most transaction.now) (T.meaning transaction.now)) (store_of store.old) (store_of store.new) a desk.new.footprint) }
     ensures young { IfSome result (λ _. IsYoung (age + 1) (store_of store.new)) }
     ensures waits { IfNone result ((run_on (limited (T.most transaction.now) (T.meaning transaction.now)) (store_of store.old)).outcome ≡ retried) }
     ensures size { length store.new ≡ length store.old }
@@ -98,7 +98,7 @@ fn add_commit<T: Transact>(
     requires spare { records.old.spare ≡ 0 }
     requires bare { 0 < records.old.bare }
     requires lines { TouchesFew records.old.limit (limited (T.most transaction.now) (T.meaning transaction.now)) }
-    ensures adds { result ≡ true → Adds (limited (T.most transaction.now) (T.meaning transaction.now)) (store_of store.old) (store_of store.new) thread mark desk.new.head records.old records.new }
+    ensures adds { result ≡ true → AddsRecord (limited (T.most transaction.now) (T.meaning transaction.now)) (store_of store.old) (store_of store.new) thread mark desk.new.head records.old records.new }
     ensures young { result ≡ true → IsYoung (age + 1) (store_of store.new) }
     ensures waits { result ≡ false → (run_on (limited (T.most transaction.now) (T.meaning transaction.now)) (store_of store.old)).outcome ≡ retried }
     ensures size { length store.new ≡ length store.old }
@@ -173,7 +173,7 @@ pub(crate) fn replay_at(
     requires limit { (0 < limit) × (limit ≤ MOST) }
     requires few_threads { length threads.now ≤ MOST_THREADS }
     requires short { All (λ v. length v.items ≤ MOST_COMMANDS) threads.now }
-    requires place { IsPlace (commands_of threads.now) place }
+    requires place { IsThreadPlace (commands_of threads.now) place }
     requires turn { place.index ≡ counts (lists_of records.old) place.thread }
     requires room { KeepFirst limit (commands_of threads.now) records.old }
     requires young { IsYoung age (store_of store.old) }

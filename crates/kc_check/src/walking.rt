@@ -2,12 +2,12 @@
 
 ghost use Rattle.std.specs.Prelude.{◌≡◌, ◌<◌, ◌≤◌, ◌↔◌, [], All, IfErr, IfOk, IsTrue, drop, length};
 ghost use Rattle.std.specs.Io.BufRead.{take_through};
-ghost use Rattle.kc_history.specs.Text.{bare, reply_line};
+ghost use Rattle.kc_history.specs.Text.{bare_record, reply_line};
 ghost use Rattle.kc_model.specs.Store.{store_of};
 ghost use Rattle.kc_model.specs.declared.footprint.TheConstants.{LAST_VERSION, MOST};
 ghost use Rattle.kc_script_bundle.specs.declared.bundle.TheConstants.{MOST_COMMANDS, MOST_THREADS};
 ghost use Rattle.kc_check.specs.Ages.{IsYoung};
-ghost use Rattle.kc_check.specs.Parts.{IsPlace, said_at};
+ghost use Rattle.kc_check.specs.Parts.{IsThreadPlace, said_at};
 ghost use Rattle.kc_check.specs.Replays.{AllCanAsk, HaveRoom, commands_of};
 ghost use Rattle.kc_check.specs.Walks.{ComesKept, StopsFor, lines_in};
 
@@ -55,7 +55,7 @@ fn line_at<'a>(text: &'a [u8], replies: &[Vec<u32>], place: Place) -> &'a [u8]
 // Whether the text says what the record at a place replies, which has this head.
 fn says(text: &[u8], replies: &[Vec<u32>], place: Place, head: &Head) -> bool
     requires { place.thread < length replies.now }
-    ensures { IsTrue result ↔ (said_at (lines_in text.now replies.now) place ≡ reply_line (bare head.now)) }
+    ensures { IsTrue result ↔ (said_at (lines_in text.now replies.now) place ≡ reply_line (bare_record head.now)) }
 {
     let line = line_at(text, replies, place);
     is_reply(line, head)
@@ -78,7 +78,7 @@ pub(crate) fn walk(
     requires few { length threads.now ≤ MOST_THREADS }
     requires commands { All (λ v. length v.items ≤ MOST_COMMANDS) threads.now }
     requires many { length replies.now ≡ length threads.now }
-    requires places { All (IsPlace (commands_of threads.now)) places.now }
+    requires places { All (IsThreadPlace (commands_of threads.now)) places.now }
     requires short { length places.now < LAST_VERSION }
     requires room { HaveRoom limit 1 (commands_of threads.now) records.old }
     requires empty { All (λ v. v.items ≡ []) records.old }

@@ -3,8 +3,8 @@ use Rattle.std.proofs.Common.{◌≡◌, ◌≢◌, ℕ, ◌<◌, ◌≤◌, ◌
 use Rattle.std.proofs.lemmas.Bool.{ne_eqb}
 use Rattle.std.proofs.lemmas.Bool.Decides.{nat_tests}
 use Rattle.kc_dllist.proofs.Rings.{Ring, put_here, put_else}
-use Rattle.kc_dllist.specs.Content.{Listed, numbers, Chain, Backward, Payloads}
-use Rattle.kc_dllist.specs.Meaning.{last_cell, free_cell, payload_cell, prev_cell, next_cell, after_cell, before_cell, node_in}
+use Rattle.kc_dllist.specs.Content.{Listed, node_numbers, Chain, Backward, Payloads}
+use Rattle.kc_dllist.specs.Meaning.{last_cell, list_free_cell, payload_cell, prev_cell, list_next_cell, after_cell, before_cell, node_in}
 use Rattle.kc_dllist.specs.declared.dllist.Dllist.{Dllist}
 use Rattle.kc_xt.proofs.Times.{has_here, has_rest}
 use Rattle.kc_xt.specs.Meaning.{put}
@@ -21,10 +21,10 @@ before_before d i j ne e = absurd (grind (arith, nat_tests))
 after_before : (d : Dllist) (i j : ℕ) → after_cell d i ≢ before_cell d j
 after_before d i j e = absurd (grind (arith, nat_tests))
 
-free_after : (d : Dllist) (j : ℕ) → free_cell d ≢ after_cell d j
+free_after : (d : Dllist) (j : ℕ) → list_free_cell d ≢ after_cell d j
 free_after d j e = absurd (grind (arith, nat_tests))
 
-free_before : (d : Dllist) (j : ℕ) → free_cell d ≢ before_cell d j
+free_before : (d : Dllist) (j : ℕ) → list_free_cell d ≢ before_cell d j
 free_before d j e = absurd (grind (arith, nat_tests))
 
 payload_after : (d : Dllist) (i j : ℕ) → 0 < i → payload_cell d i ≢ after_cell d j
@@ -42,7 +42,7 @@ nexts d m j = m (after_cell d j)
 abbrev pub prevs : Dllist → (ℕ → ℕ) → ℕ → ℕ
 prevs d m j = m (before_cell d j)
 
-pub next_is : (d : Dllist) (i : ℕ) → i ≢ 0 → next_cell d i ≡ after_cell d i
+pub next_is : (d : Dllist) (i : ℕ) → i ≢ 0 → list_next_cell d i ≡ after_cell d i
 next_is d i ne = rw (ne_eqb i 0 ne) refl
 
 pub prev_is : (d : Dllist) (i : ℕ) → i ≢ 0 → prev_cell d i ≡ before_cell d i
@@ -72,11 +72,11 @@ module _ (d : Dllist) (m : ℕ → ℕ) (v j : ℕ) where
   pub prevs-after : (a : ℕ) → prevs d (put m (after_cell d a) v) j ≡ prevs d m j
   prevs-after a = put_else m (after_cell d a) v (before_cell d j) (after_before d a j)
 
-  pub nexts-free : nexts d (put m (free_cell d) v) j ≡ nexts d m j
-  nexts-free = put_else m (free_cell d) v (after_cell d j) (free_after d j)
+  pub nexts-free : nexts d (put m (list_free_cell d) v) j ≡ nexts d m j
+  nexts-free = put_else m (list_free_cell d) v (after_cell d j) (free_after d j)
 
-  pub prevs-free : prevs d (put m (free_cell d) v) j ≡ prevs d m j
-  prevs-free = put_else m (free_cell d) v (before_cell d j) (free_before d j)
+  pub prevs-free : prevs d (put m (list_free_cell d) v) j ≡ prevs d m j
+  prevs-free = put_else m (list_free_cell d) v (before_cell d j) (free_before d j)
 
   pub nexts-payload : (i : ℕ) → 0 < i → nexts d (put m (payload_cell d i) v) j ≡ nexts d m j
   nexts-payload i h = put_else m (payload_cell d i) v (after_cell d j) (payload_after d i j h)
@@ -84,14 +84,14 @@ module _ (d : Dllist) (m : ℕ → ℕ) (v j : ℕ) where
   pub prevs-payload : (i : ℕ) → 0 < i → prevs d (put m (payload_cell d i) v) j ≡ prevs d m j
   prevs-payload i h = put_else m (payload_cell d i) v (before_cell d j) (payload_before d i j h)
 
-  pub free-after : put m (after_cell d j) v (free_cell d) ≡ m (free_cell d)
-  free-after = put_else m (after_cell d j) v (free_cell d) (λ e. free_after d j (sym e))
+  pub free-after : put m (after_cell d j) v (list_free_cell d) ≡ m (list_free_cell d)
+  free-after = put_else m (after_cell d j) v (list_free_cell d) (λ e. free_after d j (sym e))
 
-  pub free-before : put m (before_cell d j) v (free_cell d) ≡ m (free_cell d)
-  free-before = put_else m (before_cell d j) v (free_cell d) (λ e. free_before d j (sym e))
+  pub free-before : put m (before_cell d j) v (list_free_cell d) ≡ m (list_free_cell d)
+  free-before = put_else m (before_cell d j) v (list_free_cell d) (λ e. free_before d j (sym e))
 
-  pub free-payload : 0 < j → put m (payload_cell d j) v (free_cell d) ≡ m (free_cell d)
-  free-payload h = put_else m (payload_cell d j) v (free_cell d) (λ e. omega (arith, h, e))
+  pub free-payload : 0 < j → put m (payload_cell d j) v (list_free_cell d) ≡ m (list_free_cell d)
+  free-payload h = put_else m (payload_cell d j) v (list_free_cell d) (λ e. omega (arith, h, e))
 
   pub payload-after : (i : ℕ) → 0 < i → put m (after_cell d j) v (payload_cell d i) ≡ m (payload_cell d i)
   payload-after i h = put_else m (after_cell d j) v (payload_cell d i) (λ e. payload_after d i j h (sym e))
@@ -99,8 +99,8 @@ module _ (d : Dllist) (m : ℕ → ℕ) (v j : ℕ) where
   pub payload-before : (i : ℕ) → 0 < i → put m (before_cell d j) v (payload_cell d i) ≡ m (payload_cell d i)
   payload-before i h = put_else m (before_cell d j) v (payload_cell d i) (λ e. payload_before d i j h (sym e))
 
-  pub payload-free : (i : ℕ) → 0 < i → put m (free_cell d) v (payload_cell d i) ≡ m (payload_cell d i)
-  payload-free i h = put_else m (free_cell d) v (payload_cell d i) (λ e. omega (arith, h, e))
+  pub payload-free : (i : ℕ) → 0 < i → put m (list_free_cell d) v (payload_cell d i) ≡ m (payload_cell d i)
+  payload-free i h = put_else m (list_free_cell d) v (payload_cell d i) (λ e. omega (arith, h, e))
 
   pub payload-payload : (i : ℕ) → j ≢ i → put m (payload_cell d j) v (payload_cell d i) ≡ m (payload_cell d i)
   payload-payload i ne = put_else m (payload_cell d j) v (payload_cell d i) (λ e. ne (omega (arith, e)))
@@ -124,14 +124,14 @@ backward_of d m p (i ∷ is) some r = (subst (λ l. m l ≡ p) (sym (prev_is d i
 
 -- ---- the same in other maps
 
-pub chain_same : (d : Dllist) (m w : ℕ → ℕ) (c b : ℕ) (is : List ℕ) → w b ≡ m c → ((j : ℕ) → 0 < times j is → w (next_cell d j) ≡ m (next_cell d j)) → Chain d m c is → Chain d w b is
+pub chain_same : (d : Dllist) (m w : ℕ → ℕ) (c b : ℕ) (is : List ℕ) → w b ≡ m c → ((j : ℕ) → 0 < times j is → w (list_next_cell d j) ≡ m (list_next_cell d j)) → Chain d m c is → Chain d w b is
 chain_same d m w c b [] e f h = e ∙ h
-chain_same d m w c b (i ∷ is) e f h = (e ∙ h.0, chain_same d m w (next_cell d i) (next_cell d i) is (f i (has_here i is)) (λ j g. f j (has_rest i j is g)) h.1)
+chain_same d m w c b (i ∷ is) e f h = (e ∙ h.0, chain_same d m w (list_next_cell d i) (list_next_cell d i) is (f i (has_here i is)) (λ j g. f j (has_rest i j is g)) h.1)
 
 pub backward_same : (d : Dllist) (m w : ℕ → ℕ) (p : ℕ) (is : List ℕ) → w (last_cell d) ≡ m (last_cell d) → ((j : ℕ) → 0 < times j is → w (prev_cell d j) ≡ m (prev_cell d j)) → Backward d m p is → Backward d w p is
 backward_same d m w p [] e f h = e ∙ h
 backward_same d m w p (i ∷ is) e f h = (f i (has_here i is) ∙ h.0, backward_same d m w i is e (λ j g. f j (has_rest i j is g)) h.1)
 
-pub payloads_same : (d : Dllist) (m w : ℕ → ℕ) (xs : List Listed) → ((j : ℕ) → 0 < times j (numbers xs) → w (payload_cell d j) ≡ m (payload_cell d j)) → Payloads d m xs → Payloads d w xs
+pub payloads_same : (d : Dllist) (m w : ℕ → ℕ) (xs : List Listed) → ((j : ℕ) → 0 < times j (node_numbers xs) → w (payload_cell d j) ≡ m (payload_cell d j)) → Payloads d m xs → Payloads d w xs
 payloads_same d m w [] f h = tt
-payloads_same d m w (x ∷ xs) f h = (f x.node (has_here x.node (numbers xs)) ∙ h.0, payloads_same d m w xs (λ j g. f j (has_rest x.node j (numbers xs) g)) h.1)
+payloads_same d m w (x ∷ xs) f h = (f x.node (has_here x.node (node_numbers xs)) ∙ h.0, payloads_same d m w xs (λ j g. f j (has_rest x.node j (node_numbers xs) g)) h.1)

@@ -3,7 +3,7 @@ use Rattle.std.proofs.Common.{◌≡◌, ◌≢◌, ℕ, ◌<◌, ◌≤◌, ◌
 use Rattle.kc_dllist.proofs.Cells.{nexts, prevs, next_is, prev_is, node_as_is, nexts-after, nexts-before, prevs-after, prevs-before, free-after, free-before, payload-after, payload-before}
 use Rattle.kc_dllist.proofs.Rings.{Ring, Apart, ring_same, ring_back, ring_less, ring_lead}
 use Rattle.kc_dllist.proofs.Times.{less}
-use Rattle.kc_dllist.specs.Meaning.{first_cell, free_cell, payload_cell, prev_cell, next_cell, after_cell, before_cell, node_in, unlink_program, lead_program}
+use Rattle.kc_dllist.specs.Meaning.{first_cell, list_free_cell, payload_cell, prev_cell, list_next_cell, after_cell, before_cell, node_in, unlink_program, lead_program}
 use Rattle.kc_dllist.specs.declared.dllist.Dllist.{Dllist}
 use Rattle.kc_xt.specs.Meaning.{put}
 use Rattle.kc_xt.specs.Program.{Program, plain}
@@ -23,7 +23,7 @@ module _ (d : Dllist) (m : ℕ → ℕ) where
   pub plain_unlink : (i : ℕ) (k : Unit {0} → Program) → i ≢ 0 → prevs d m i ≤ d.cap → nexts d m i ≤ d.cap → plain (unlink_program d i k) m ≡ plain (k tt) (unlinked d m (prevs d m i) (nexts d m i))
   plain_unlink i k ne hp hn =
       let p : node_in d (m (prev_cell d i)) ≡ prevs d m i = ap (λ l. node_in d (m l)) (prev_is d i ne) ∙ node_as_is d (prevs d m i) hp in
-      let n : node_in d (m (next_cell d i)) ≡ nexts d m i = ap (λ l. node_in d (m l)) (next_is d i ne) ∙ node_as_is d (nexts d m i) hn in
+      let n : node_in d (m (list_next_cell d i)) ≡ nexts d m i = ap (λ l. node_in d (m l)) (next_is d i ne) ∙ node_as_is d (nexts d m i) hn in
       ap₂ (λ a b. plain (k tt) (unlinked d m a b)) p n
 
   module _ (a b : ℕ) where
@@ -33,7 +33,7 @@ module _ (d : Dllist) (m : ℕ → ℕ) where
     pub prevs-unlinked : (j : ℕ) → prevs d (unlinked d m a b) j ≡ put (prevs d m) b a j
     prevs-unlinked j = prevs-before d (put m (after_cell d a) b) a j b ∙ ap (λ u. cond (b == j) a u) (prevs-after d m b j a)
 
-    pub free-unlinked : unlinked d m a b (free_cell d) ≡ m (free_cell d)
+    pub free-unlinked : unlinked d m a b (list_free_cell d) ≡ m (list_free_cell d)
     free-unlinked = free-before d (put m (after_cell d a) b) a b ∙ free-after d m b a
 
     pub payload-unlinked : (i : ℕ) → 0 < i → unlinked d m a b (payload_cell d i) ≡ m (payload_cell d i)
@@ -68,7 +68,7 @@ module _ (d : Dllist) (m : ℕ → ℕ) where
     pub prevs-led : (j : ℕ) → prevs d (led d m i h) j ≡ put (put (prevs d m) i 0) h i j
     prevs-led j = prevs-after d three i j 0 ∙ prevs-before d two i j h ∙ ap (λ u. cond (h == j) i u) (prevs-after d one h j i ∙ prevs-before d m 0 j i)
 
-    pub free-led : led d m i h (free_cell d) ≡ m (free_cell d)
+    pub free-led : led d m i h (list_free_cell d) ≡ m (list_free_cell d)
     free-led = free-after d three i 0 ∙ free-before d two i h ∙ free-after d one h i ∙ free-before d m 0 i
 
     pub payload-led : (j : ℕ) → 0 < j → led d m i h (payload_cell d j) ≡ m (payload_cell d j)

@@ -4,7 +4,7 @@ use Rattle.std.specs.Prelude.{Result, ◌==◌}
 use Rattle.std.proofs.lemmas.Bool.Decides.{nat_tests}
 use Rattle.kc_model.specs.declared.reply.Reply.{Reply}
 use Rattle.kc_model.specs.declared.reply.Reply.TheVariants as reply
-use Rattle.kc_dllist.specs.Meaning.{dllist_program, dllist_meaning, dllist_begin, dllist_end, DllistIsFit, NamesNode, IsNode, unlink_program, lead_program, take_program, release_program, bring_program, node_in, after_cell, before_cell, cells_end}
+use Rattle.kc_dllist.specs.Meaning.{dllist_program, dllist_meaning, dllist_begin, dllist_end, DllistIsFit, NamesNode, IsNode, unlink_program, lead_program, take_node_program, release_program, bring_program, node_in, after_cell, before_cell, list_cells_end}
 use Rattle.kc_dllist.specs.declared.dllist.Dllist.{Dllist}
 use Rattle.kc_dllist.specs.declared.operation.DllistAct.{DllistAct}
 use Rattle.kc_xt.proofs.Laws.{TouchesFirst}
@@ -29,7 +29,7 @@ node_within d n = grind (arith, nat_tests)
 pub node_some : (d : Dllist) (n : ℕ) → (node_in d n == 0) ≡ false → IsNode d (node_in d n)
 node_some d n e = let w = node_within d n in (grind (arith, nat_tests), w)
 
-module _ (d : Dllist) (a b : ℕ) (begin : a ≤ d.base.0) (fits : cells_end d ≤ b) where
+module _ (d : Dllist) (a b : ℕ) (begin : a ≤ d.base.0) (fits : list_cells_end d ≤ b) where
   -- the cells beside a node lie among the list's
   after_lo : (i : ℕ) → a ≤ after_cell d i
   after_lo i = grind (arith, nat_tests)
@@ -50,7 +50,7 @@ module _ (d : Dllist) (a b : ℕ) (begin : a ≤ d.base.0) (fits : cells_end d �
   lead_stays i h k node w g = (omega (arith, begin), omega (arith, node, fits), (omega (arith, begin), omega (arith, node, fits), (before_lo h, before_hi h w, (begin, omega (arith, fits), g))))
 
   module _ (k : Reply → Program) (rest : (r : Reply) → RepliesOne (replied r) → Stays a b (k r)) where
-    take_stays : (v f : ℕ) → IsNode d f → Stays a b (take_program d v f k)
+    take_stays : (v f : ℕ) → IsNode d f → Stays a b (take_node_program d v f k)
     take_stays v f node = (omega (arith, begin), omega (arith, node, fits), λ n. (omega (arith, begin), omega (arith, fits), (begin, omega (arith, fits), λ g. (omega (arith, begin), omega (arith, node, fits), lead_stays f (node_in d g) (λ _. k (reply.Value f)) node (node_within d g) (rest (reply.Value f) tt)))))
 
     -- each program, whatever comes behind it
@@ -70,9 +70,9 @@ dllist_first d (act.MoveFront i) k = tt
 dllist_first d act.Last k = tt
 
 -- an operation keeps to the list's cells
-pub op_stays : (o : DllistOp) → NamesNode o.list o.act → Stays (dllist_begin o) (cells_end o.list) (dllist_program o.list o.act replies)
-op_stays o node = dllist_stays o.list (dllist_begin o) (cells_end o.list) (omega arith) (omega arith) replies (λ r one. one) o.act node
+pub op_stays : (o : DllistOp) → NamesNode o.list o.act → Stays (dllist_begin o) (list_cells_end o.list) (dllist_program o.list o.act replies)
+op_stays o node = dllist_stays o.list (dllist_begin o) (list_cells_end o.list) (omega arith) (omega arith) replies (λ r one. one) o.act node
 
 -- what does its program obeys the law
 pub dllist_law : {P : Type 0} (gives : Gives P) (o : DllistOp) {x y : Log P} (r : Result Reply Stop) → DllistIsFit o → Does gives (dllist_program o.list o.act) x r y → Obeys gives (dllist_meaning o) (dllist_end o) x r y
-dllist_law gives o r fit d = stays_law (dllist_begin o) (cells_end o.list) gives (dllist_program o.list o.act) (op_stays o fit) (dllist_first o.list o.act replies) r d
+dllist_law gives o r fit d = stays_law (dllist_begin o) (list_cells_end o.list) gives (dllist_program o.list o.act) (op_stays o fit) (dllist_first o.list o.act replies) r d

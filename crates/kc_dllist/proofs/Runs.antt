@@ -17,24 +17,24 @@ use Rattle.kc_dllist.proofs.Changes.{unlinked, led, plain_unlink, nexts-unlinked
 use Rattle.kc_dllist.proofs.Rings.{Ring, Apart, put_here, put_else, ring_same, ring_near, ring_first}
 use Rattle.kc_dllist.proofs.Standing.{each_same, apart_of, listed_node, free_node, listed_some, free_some, not_free, not_listed, listed_once, listed_zero, free_zero, listed_apart, chain_within, ring, stands, free_same, payload_at, payloads_without, numbers-without, last_is}
 use Rattle.kc_dllist.proofs.Times.{times-less, less}
-use Rattle.kc_dllist.specs.Content.{Listed, Content, numbers, Chain, HasEachOnce, StandsFor, NamesListed, payload_of, without, last_reply, dllist_value, pushed, comes_to}
-use Rattle.kc_dllist.specs.Meaning.{dllist_program, unlink_program, take_program, release_program, bring_program, lead_program, first_cell, last_cell, free_cell, payload_cell, next_cell, after_cell, node_in, IsNode}
+use Rattle.kc_dllist.specs.Content.{Listed, ListContent, node_numbers, Chain, HasEachOnce, ListStandsFor, NamesListed, payload_of, without_node, last_reply, dllist_value, pushed, list_comes_to}
+use Rattle.kc_dllist.specs.Meaning.{dllist_program, unlink_program, take_node_program, release_program, bring_program, lead_program, first_cell, last_cell, list_free_cell, payload_cell, list_next_cell, after_cell, node_in, IsNode}
 
 -- an operation goes to a value
-abbrev pub Goes : Dllist → DllistAct → (ℕ → ℕ) → Value Content → Type 0
-Goes d a m v = GoesTo (StandsFor d) (dllist_program d a) m v
+abbrev pub Goes : Dllist → DllistAct → (ℕ → ℕ) → Value ListContent → Type 0
+Goes d a m v = GoesTo (ListStandsFor d) (dllist_program d a) m v
 
 -- ---- PushFront
 
-module _ (d : Dllist) (m : ℕ → ℕ) (v : ℕ) (xs : List Listed) (f : ℕ) (fs : List ℕ) (s : (let c : Content = record { listed = xs; free = f ∷ fs } in StandsFor d m c)) where
+module _ (d : Dllist) (m : ℕ → ℕ) (v : ℕ) (xs : List Listed) (f : ℕ) (fs : List ℕ) (s : (let c : ListContent = record { listed = xs; free = f ∷ fs } in ListStandsFor d m c)) where
   abbrev ns : List ℕ
-  ns = numbers xs
+  ns = node_numbers xs
 
   abbrev h : ℕ
   h = nexts d m 0
 
   abbrev one : ℕ → ℕ
-  one = put m (free_cell d) (m (next_cell d f))
+  one = put m (list_free_cell d) (m (list_next_cell d f))
 
   abbrev two : ℕ → ℕ
   two = put one (payload_cell d f) v
@@ -51,27 +51,27 @@ module _ (d : Dllist) (m : ℕ → ℕ) (v : ℕ) (xs : List Listed) (f : ℕ) (
   first_within : h ≤ d.cap
   first_within = ring_first (nexts d m) (prevs d m) (λ j. j ≤ d.cap) 0 ns (omega arith) (λ j g. (listed_node d ns (f ∷ fs) s.each j g).1) (ring d m _ s)
 
-  take_runs : (k : Reply → Program) → plain (take_program d v f k) m ≡ plain (k (reply.Value f)) (led d two f h)
+  take_runs : (k : Reply → Program) → plain (take_node_program d v f k) m ≡ plain (k (reply.Value f)) (led d two f h)
   take_runs k =
-      let n : node_in d (m (next_cell d f)) ≡ m (next_cell d f) = node_as_is d _ (chain_within d m (next_cell d f) fs (λ j g. free_node d ns (f ∷ fs) s.each j (has_rest f j fs g)) s.free.1) in
-      let g : node_in d (put m (free_cell d) (node_in d (m (next_cell d f))) (first_cell d)) ≡ h = ap (node_in d) (nexts-free d m (node_in d (m (next_cell d f))) 0) ∙ node_as_is d h first_within in
-      ap₂ (λ x y. plain (lead_program d f y (λ _. k (reply.Value f))) (put (put m (free_cell d) x) (payload_cell d f) v)) n g
+      let n : node_in d (m (list_next_cell d f)) ≡ m (list_next_cell d f) = node_as_is d _ (chain_within d m (list_next_cell d f) fs (λ j g. free_node d ns (f ∷ fs) s.each j (has_rest f j fs g)) s.free.1) in
+      let g : node_in d (put m (list_free_cell d) (node_in d (m (list_next_cell d f))) (first_cell d)) ≡ h = ap (node_in d) (nexts-free d m (node_in d (m (list_next_cell d f))) 0) ∙ node_as_is d h first_within in
+      ap₂ (λ x y. plain (lead_program d f y (λ _. k (reply.Value f))) (put (put m (list_free_cell d) x) (payload_cell d f) v)) n g
       ∙ plain_lead d two f h (λ _. k (reply.Value f)) push_some
 
   push_runs : (k : Reply → Program) → plain (dllist_program d (act.PushFront v) k) m ≡ plain (k (reply.Value f)) (led d two f h)
   unfolding dllist_program
   push_runs k =
-      let e : node_in d (m (free_cell d)) ≡ f = ap (node_in d) s.free.0 ∙ node_as_is d f push_node.1 in
-      let P : ℕ → Type 0 = λ i. plain (cond (i == 0) (k reply.Full) (take_program d v i k)) m ≡ plain (k (reply.Value f)) (led d two f h) in
-      let Q : Bool → Type 0 = λ t. plain (cond t (k reply.Full) (take_program d v f k)) m ≡ plain (k (reply.Value f)) (led d two f h) in
+      let e : node_in d (m (list_free_cell d)) ≡ f = ap (node_in d) s.free.0 ∙ node_as_is d f push_node.1 in
+      let P : ℕ → Type 0 = λ i. plain (cond (i == 0) (k reply.Full) (take_node_program d v i k)) m ≡ plain (k (reply.Value f)) (led d two f h) in
+      let Q : Bool → Type 0 = λ t. plain (cond t (k reply.Full) (take_node_program d v f k)) m ≡ plain (k (reply.Value f)) (led d two f h) in
       subst P (sym e) (subst Q (sym (ne_eqb f 0 push_some)) (take_runs k))
 
   -- the links are as before until the node is led
   two_nexts : (j : ℕ) → nexts d two j ≡ nexts d m j
-  two_nexts j = nexts-payload d one v j f push_node.0 ∙ nexts-free d m (m (next_cell d f)) j
+  two_nexts j = nexts-payload d one v j f push_node.0 ∙ nexts-free d m (m (list_next_cell d f)) j
 
   two_prevs : (j : ℕ) → prevs d two j ≡ prevs d m j
-  two_prevs j = prevs-payload d one v j f push_node.0 ∙ prevs-free d m (m (next_cell d f)) j
+  two_prevs j = prevs-payload d one v j f push_node.0 ∙ prevs-free d m (m (list_next_cell d f)) j
 
   push_ring : Ring (nexts d (led d two f h)) (prevs d (led d two f h)) 0 (f ∷ ns)
   push_ring = ring_led d two f h ns push_some (sym (two_nexts 0)) push_new (listed_apart d ns (f ∷ fs) s.each) (ring_same (nexts d m) (prevs d m) (nexts d two) (prevs d two) 0 ns (λ j _. two_nexts j) (λ j _. two_prevs j) (two_prevs 0) (ring d m _ s))
@@ -79,12 +79,12 @@ module _ (d : Dllist) (m : ℕ → ℕ) (v : ℕ) (xs : List Listed) (f : ℕ) (
   push_payload : (j : ℕ) → 0 < times j ns → led d two f h (payload_cell d j) ≡ m (payload_cell d j)
   push_payload j g =
       let w = listed_node d ns (f ∷ fs) s.each j g in
-      payload-led d two f h j w.0 ∙ payload-payload d one v f j (apart f j ns push_new g) ∙ payload-free d m (m (next_cell d f)) 0 j w.0
+      payload-led d two f h j w.0 ∙ payload-payload d one v f j (apart f j ns push_new g) ∙ payload-free d m (m (list_next_cell d f)) 0 j w.0
 
-  push_free : Chain d (led d two f h) (free_cell d) fs
-  push_free = free_same d m (led d two f h) (next_cell d f) (free_cell d) fs
+  push_free : Chain d (led d two f h) (list_free_cell d) fs
+  push_free = free_same d m (led d two f h) (list_next_cell d f) (list_free_cell d) fs
       (λ j g. free_some d ns (f ∷ fs) s.each j (has_rest f j fs g))
-      (free-led d two f h ∙ free-payload d one v f push_node.0 ∙ put_here m (free_cell d) (m (next_cell d f)) (free_cell d) refl)
+      (free-led d two f h ∙ free-payload d one v f push_node.0 ∙ put_here m (list_free_cell d) (m (list_next_cell d f)) (list_free_cell d) refl)
       (λ j g. nexts-led d two f h j ∙ put_else (put (nexts d two) f h) 0 f j (λ e. free_some d ns (f ∷ fs) s.each j (has_rest f j fs g) (sym e)) ∙ put_else (nexts d two) f h j (push_other j g) ∙ two_nexts j)
       s.free.1
     where
@@ -105,28 +105,28 @@ module _ (d : Dllist) (m : ℕ → ℕ) (v : ℕ) (xs : List Listed) (f : ℕ) (
       let e = times-append j ns fs in
       omega (arith, a, b, c, e)) s.each
 
-  push_performs : Goes d (act.PushFront v) m (comes_to (reply.Value f) (record { node = f; payload = v } ∷ xs) fs)
+  push_performs : Goes d (act.PushFront v) m (list_comes_to (reply.Value f) (record { node = f; payload = v } ∷ xs) fs)
   push_performs = record {
     left = led d two f h;
     runs = push_runs;
     stand = stands d (led d two f h) _ push_ring (payload-led d two f h f push_node.0 ∙ put_here one (payload_cell d f) v (payload_cell d f) refl, payloads_same d m (led d two f h) xs push_payload s.payloads) push_free push_each;
   }
 
-full_performs : (d : Dllist) (m : ℕ → ℕ) (v : ℕ) (xs : List Listed) → (let c : Content = record { listed = xs; free = [] } in StandsFor d m c) → Goes d (act.PushFront v) m (comes_to reply.Full xs [])
+full_performs : (d : Dllist) (m : ℕ → ℕ) (v : ℕ) (xs : List Listed) → (let c : ListContent = record { listed = xs; free = [] } in ListStandsFor d m c) → Goes d (act.PushFront v) m (list_comes_to reply.Full xs [])
 unfolding dllist_program
 full_performs d m v xs s = record { left = m; runs = full_runs; stand = s }
   where
     full_runs : (k : Reply → Program) → plain (dllist_program d (act.PushFront v) k) m ≡ plain (k reply.Full) m
     full_runs k =
-        let e : node_in d (m (free_cell d)) ≡ 0 = ap (node_in d) s.free ∙ node_as_is d 0 (omega arith) in
-        let P : ℕ → Type 0 = λ i. plain (cond (i == 0) (k reply.Full) (take_program d v i k)) m ≡ plain (k reply.Full) m in
+        let e : node_in d (m (list_free_cell d)) ≡ 0 = ap (node_in d) s.free ∙ node_as_is d 0 (omega arith) in
+        let P : ℕ → Type 0 = λ i. plain (cond (i == 0) (k reply.Full) (take_node_program d v i k)) m ≡ plain (k reply.Full) m in
         subst P (sym e) refl
 
 -- ---- a listed node is unlinked
 
-module _ (d : Dllist) (m : ℕ → ℕ) (i : ℕ) (xs : List Listed) (fs : List ℕ) (s : (let c : Content = record { listed = xs; free = fs } in StandsFor d m c)) (on : 0 < times i (numbers xs)) where
+module _ (d : Dllist) (m : ℕ → ℕ) (i : ℕ) (xs : List Listed) (fs : List ℕ) (s : (let c : ListContent = record { listed = xs; free = fs } in ListStandsFor d m c)) (on : 0 < times i (node_numbers xs)) where
   abbrev is : List ℕ
-  is = numbers xs
+  is = node_numbers xs
 
   abbrev a : ℕ
   a = prevs d m i
@@ -185,18 +185,18 @@ module _ (d : Dllist) (m : ℕ → ℕ) (i : ℕ) (xs : List Listed) (fs : List 
   -- ---- Remove
 
   abbrev n : ℕ
-  n = m (free_cell d)
+  n = m (list_free_cell d)
 
   abbrev gone : ℕ → ℕ
-  gone = put (put cut (after_cell d i) n) (free_cell d) i
+  gone = put (put cut (after_cell d i) n) (list_free_cell d) i
 
   gone_payload : (j : ℕ) → 0 < j → gone (payload_cell d j) ≡ m (payload_cell d j)
   gone_payload j g = payload-free d (put cut (after_cell d i) n) i 0 j g ∙ payload-after d cut n i j g ∙ payload-unlinked d m a b j g
 
   release_runs : (k : Reply → Program) → plain (release_program d i k) cut ≡ plain (k (reply.Value (payload_of i xs))) gone
   release_runs k =
-      let e : node_in d (cut (free_cell d)) ≡ n = ap (node_in d) (free-unlinked d m a b) ∙ node_as_is d n (chain_within d m (free_cell d) fs (free_node d is fs s.each) s.free) in
-      ap₂ (λ l x. let w : ℕ → ℕ = put (put cut l x) (free_cell d) i in plain (k (reply.Value (w (payload_cell d i)))) w) (next_is d i cut_some) e
+      let e : node_in d (cut (list_free_cell d)) ≡ n = ap (node_in d) (free-unlinked d m a b) ∙ node_as_is d n (chain_within d m (list_free_cell d) fs (free_node d is fs s.each) s.free) in
+      ap₂ (λ l x. let w : ℕ → ℕ = put (put cut l x) (list_free_cell d) i in plain (k (reply.Value (w (payload_cell d i)))) w) (next_is d i cut_some) e
       ∙ ap (λ v. plain (k (reply.Value v)) gone) (gone_payload i cut_node.0 ∙ payload_at d m i xs on s.payloads)
 
   remove_runs : (k : Reply → Program) → plain (dllist_program d (act.Remove i) k) m ≡ plain (k (reply.Value (payload_of i xs))) gone
@@ -215,10 +215,10 @@ module _ (d : Dllist) (m : ℕ → ℕ) (i : ℕ) (xs : List Listed) (fs : List 
       zero_out : times i (0 ∷ []) ≡ 0
       zero_out = times-there 0 i [] (λ e. cut_some (sym e))
 
-  gone_free : Chain d gone (free_cell d) (i ∷ fs)
+  gone_free : Chain d gone (list_free_cell d) (i ∷ fs)
   gone_free = (
-    put_here (put cut (after_cell d i) n) (free_cell d) i (free_cell d) refl,
-    free_same d m gone (free_cell d) (next_cell d i) fs (free_some d is fs s.each)
+    put_here (put cut (after_cell d i) n) (list_free_cell d) i (list_free_cell d) refl,
+    free_same d m gone (list_free_cell d) (list_next_cell d i) fs (free_some d is fs s.each)
         (ap gone (next_is d i cut_some) ∙ nexts-free d (put cut (after_cell d i) n) i i ∙ nexts-after d cut n i i ∙ put_here (nexts d cut) i n i refl)
         (λ j g. gone_nexts j (free_other j g) ∙ cut_nexts j g)
         s.free,
@@ -233,7 +233,7 @@ module _ (d : Dllist) (m : ℕ → ℕ) (i : ℕ) (xs : List Listed) (fs : List 
       let x = times-append j (i ∷ []) fs in
       omega (arith, t, u, v, w, x)) s.each
 
-  remove_performs : Goes d (act.Remove i) m (comes_to (reply.Value (payload_of i xs)) (without i xs) (i ∷ fs))
+  remove_performs : Goes d (act.Remove i) m (list_comes_to (reply.Value (payload_of i xs)) (without_node i xs) (i ∷ fs))
   remove_performs =
       let e = sym (numbers-without i xs) in
       record {
@@ -259,13 +259,13 @@ module _ (d : Dllist) (m : ℕ → ℕ) (i : ℕ) (xs : List Listed) (fs : List 
   moved_payload : (j : ℕ) → 0 < j → moved (payload_cell d j) ≡ m (payload_cell d j)
   moved_payload j g = payload-led d cut i (nexts d cut 0) j g ∙ payload-unlinked d m a b j g
 
-  moved_free : Chain d moved (free_cell d) fs
-  moved_free = free_same d m moved (free_cell d) (free_cell d) fs (free_some d is fs s.each)
+  moved_free : Chain d moved (list_free_cell d) fs
+  moved_free = free_same d m moved (list_free_cell d) (list_free_cell d) fs (free_some d is fs s.each)
       (free-led d cut i (nexts d cut 0) ∙ free-unlinked d m a b)
       (λ j g. nexts-led d cut i (nexts d cut 0) j ∙ put_else (put (nexts d cut) i (nexts d cut 0)) 0 i j (λ e. free_some d is fs s.each j g (sym e)) ∙ put_else (nexts d cut) i (nexts d cut 0) j (free_other j g) ∙ cut_nexts j g)
       s.free
 
-  move_performs : (node_in d (m (first_cell d)) == i) ≡ false → Goes d (act.MoveFront i) m (comes_to reply.Unit (record { node = i; payload = payload_of i xs } ∷ without i xs) fs)
+  move_performs : (node_in d (m (first_cell d)) == i) ≡ false → Goes d (act.MoveFront i) m (list_comes_to reply.Unit (record { node = i; payload = payload_of i xs } ∷ without_node i xs) fs)
   move_performs e =
       let w = sym (numbers-without i xs) in
       record {
@@ -276,13 +276,13 @@ module _ (d : Dllist) (m : ℕ → ℕ) (i : ℕ) (xs : List Listed) (fs : List 
 
 -- ---- MoveFront of the first node changes nothing
 
-first_again : (i : ℕ) (x : Listed) (xs : List Listed) → x.node ≡ i → (let y : Listed = record { node = i; payload = payload_of i (x ∷ xs) } in y ∷ without i (x ∷ xs)) ≡ x ∷ xs
+first_again : (i : ℕ) (x : Listed) (xs : List Listed) → x.node ≡ i → (let y : Listed = record { node = i; payload = payload_of i (x ∷ xs) } in y ∷ without_node i (x ∷ xs)) ≡ x ∷ xs
 first_again i x xs e = rw (eq-eqb x.node i e) (ap (λ n. let y : Listed = record { node = n; payload = x.payload } in y ∷ xs) (sym e))
 
-stay_performs : (d : Dllist) (m : ℕ → ℕ) (i : ℕ) (xs : List Listed) (fs : List ℕ) → (let c : Content = record { listed = xs; free = fs } in StandsFor d m c) → 0 < times i (numbers xs) → (node_in d (m (first_cell d)) == i) ≡ true → Goes d (act.MoveFront i) m (comes_to reply.Unit (record { node = i; payload = payload_of i xs } ∷ without i xs) fs)
+stay_performs : (d : Dllist) (m : ℕ → ℕ) (i : ℕ) (xs : List Listed) (fs : List ℕ) → (let c : ListContent = record { listed = xs; free = fs } in ListStandsFor d m c) → 0 < times i (node_numbers xs) → (node_in d (m (first_cell d)) == i) ≡ true → Goes d (act.MoveFront i) m (list_comes_to reply.Unit (record { node = i; payload = payload_of i xs } ∷ without_node i xs) fs)
 unfolding dllist_program
 stay_performs d m i [] fs s on e = absurd (omega (arith, on))
-stay_performs d m i (x ∷ xs) fs s on e = record { left = m; runs = stay_runs; stand = subst (λ (ys : List Listed). let c : Content = record { listed = ys; free = fs } in StandsFor d m c) (sym (first_again i x xs first_is)) s }
+stay_performs d m i (x ∷ xs) fs s on e = record { left = m; runs = stay_runs; stand = subst (λ (ys : List Listed). let c : ListContent = record { listed = ys; free = fs } in ListStandsFor d m c) (sym (first_again i x xs first_is)) s }
   where
     stay_runs : (k : Reply → Program) → plain (dllist_program d (act.MoveFront i) k) m ≡ plain (k reply.Unit) m
     stay_runs k =
@@ -290,15 +290,15 @@ stay_performs d m i (x ∷ xs) fs s on e = record { left = m; runs = stay_runs; 
         subst Q (sym e) refl
 
     first_is : x.node ≡ i
-    first_is = sym (ap (node_in d) s.forward.0 ∙ node_as_is d x.node (listed_node d (numbers (x ∷ xs)) fs s.each x.node (has_here x.node (numbers xs))).1) ∙ eqb-true (node_in d (m (first_cell d))) i e
+    first_is = sym (ap (node_in d) s.forward.0 ∙ node_as_is d x.node (listed_node d (node_numbers (x ∷ xs)) fs s.each x.node (has_here x.node (node_numbers xs))).1) ∙ eqb-true (node_in d (m (first_cell d))) i e
 
-front_performs : (d : Dllist) (m : ℕ → ℕ) (i : ℕ) (xs : List Listed) (fs : List ℕ) → (let c : Content = record { listed = xs; free = fs } in StandsFor d m c) → 0 < times i (numbers xs) → (t : Bool) → (node_in d (m (first_cell d)) == i) ≡ t → Goes d (act.MoveFront i) m (comes_to reply.Unit (record { node = i; payload = payload_of i xs } ∷ without i xs) fs)
+front_performs : (d : Dllist) (m : ℕ → ℕ) (i : ℕ) (xs : List Listed) (fs : List ℕ) → (let c : ListContent = record { listed = xs; free = fs } in ListStandsFor d m c) → 0 < times i (node_numbers xs) → (t : Bool) → (node_in d (m (first_cell d)) == i) ≡ t → Goes d (act.MoveFront i) m (list_comes_to reply.Unit (record { node = i; payload = payload_of i xs } ∷ without_node i xs) fs)
 front_performs d m i xs fs s on true e = stay_performs d m i xs fs s on e
 front_performs d m i xs fs s on false e = move_performs d m i xs fs s on e
 
 -- ---- Last
 
-last_performs : (d : Dllist) (m : ℕ → ℕ) (xs : List Listed) (fs : List ℕ) → (let c : Content = record { listed = xs; free = fs } in StandsFor d m c) → Goes d act.Last m (comes_to (last_reply xs) xs fs)
+last_performs : (d : Dllist) (m : ℕ → ℕ) (xs : List Listed) (fs : List ℕ) → (let c : ListContent = record { listed = xs; free = fs } in ListStandsFor d m c) → Goes d act.Last m (list_comes_to (last_reply xs) xs fs)
 unfolding dllist_program
 last_performs d m [] fs s = record { left = m; runs = none_runs; stand = s }
   where
@@ -313,19 +313,19 @@ last_performs d m (x ∷ xs) fs s = record { left = m; runs = some_runs; stand =
     some_runs k =
         let r = last_is d m 0 x xs s.backward s.payloads in
         let l = m (last_cell d) in
-        let w = listed_node d (numbers (x ∷ xs)) fs s.each l r.listed in
+        let w = listed_node d (node_numbers (x ∷ xs)) fs s.each l r.listed in
         let P : ℕ → Type 0 = λ i. plain (cond (i == 0) (k reply.Empty) (read (payload_cell d i) (λ v. k (reply.Value v)))) m ≡ plain (k (last_reply (x ∷ xs))) m in
         let Q : Bool → Type 0 = λ t. plain (cond t (k reply.Empty) (read (payload_cell d l) (λ v. k (reply.Value v)))) m ≡ plain (k (last_reply (x ∷ xs))) m in
         subst P (sym (node_as_is d l w.1)) (subst Q (sym (ne_eqb l 0 (λ e. omega (arith, w, e)))) (ap (λ v. plain (k (reply.Value v)) m) r.held ∙ ap (λ y. plain (k y) m) (sym r.reply)))
 
 -- ---- each operation
 
-push_value : (d : Dllist) (m : ℕ → ℕ) (v : ℕ) (xs : List Listed) (fs : List ℕ) → (let c : Content = record { listed = xs; free = fs } in StandsFor d m c) → Goes d (act.PushFront v) m (pushed v xs fs)
+push_value : (d : Dllist) (m : ℕ → ℕ) (v : ℕ) (xs : List Listed) (fs : List ℕ) → (let c : ListContent = record { listed = xs; free = fs } in ListStandsFor d m c) → Goes d (act.PushFront v) m (pushed v xs fs)
 push_value d m v xs [] s = full_performs d m v xs s
 push_value d m v xs (f ∷ fs) s = push_performs d m v xs f fs s
 
 -- The program of each operation, on cells that stand for a content, whatever comes behind it.
-pub performs : (d : Dllist) (a : DllistAct) (m : ℕ → ℕ) (c : Content) → StandsFor d m c → NamesListed a c → Goes d a m (dllist_value a c)
+pub performs : (d : Dllist) (a : DllistAct) (m : ℕ → ℕ) (c : ListContent) → ListStandsFor d m c → NamesListed a c → Goes d a m (dllist_value a c)
 performs d (act.PushFront v) m c s on = push_value d m v c.listed c.free s
 performs d (act.Remove i) m c s on = remove_performs d m i c.listed c.free s on
 performs d (act.MoveFront i) m c s on = front_performs d m i c.listed c.free s on (node_in d (m (first_cell d)) == i) refl

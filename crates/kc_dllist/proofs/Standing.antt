@@ -7,8 +7,8 @@ use Rattle.kc_model.specs.declared.reply.Reply.TheVariants as reply
 use Rattle.kc_dllist.proofs.Cells.{nexts, prevs, next_is, ring_of, chain_of, backward_of, chain_same}
 use Rattle.kc_dllist.proofs.Rings.{Ring, Apart}
 use Rattle.kc_dllist.proofs.Times.{less}
-use Rattle.kc_dllist.specs.Content.{Listed, Content, numbers, Chain, Backward, Payloads, HasEachOnce, StandsFor, payload_of, without, last_reply}
-use Rattle.kc_dllist.specs.Meaning.{last_cell, free_cell, payload_cell, IsNode}
+use Rattle.kc_dllist.specs.Content.{Listed, ListContent, node_numbers, Chain, Backward, Payloads, HasEachOnce, ListStandsFor, payload_of, without_node, last_reply}
+use Rattle.kc_dllist.specs.Meaning.{last_cell, list_free_cell, payload_cell, IsNode}
 use Rattle.kc_dllist.specs.declared.dllist.Dllist.{Dllist}
 
 -- ---- each node once
@@ -66,14 +66,14 @@ chain_within d m c (i ∷ is) f h = let w = f i (has_here i is) in let e = h.0 i
 
 -- ---- from the links to the content
 
-module _ (d : Dllist) (m : ℕ → ℕ) (c : Content) where
-  pub ring : StandsFor d m c → Ring (nexts d m) (prevs d m) 0 (numbers c.listed)
-  ring s = ring_of d m 0 (numbers c.listed) (listed_some d (numbers c.listed) c.free s.each) s.forward s.backward
+module _ (d : Dllist) (m : ℕ → ℕ) (c : ListContent) where
+  pub ring : ListStandsFor d m c → Ring (nexts d m) (prevs d m) 0 (node_numbers c.listed)
+  ring s = ring_of d m 0 (node_numbers c.listed) (listed_some d (node_numbers c.listed) c.free s.each) s.forward s.backward
 
-  pub stands : Ring (nexts d m) (prevs d m) 0 (numbers c.listed) → Payloads d m c.listed → Chain d m (free_cell d) c.free → HasEachOnce d (numbers c.listed ++ c.free) → StandsFor d m c
+  pub stands : Ring (nexts d m) (prevs d m) 0 (node_numbers c.listed) → Payloads d m c.listed → Chain d m (list_free_cell d) c.free → HasEachOnce d (node_numbers c.listed ++ c.free) → ListStandsFor d m c
   stands r p f e =
-      let some = listed_some d (numbers c.listed) c.free e in
-      record { forward = chain_of d m 0 (numbers c.listed) some r; backward = backward_of d m 0 (numbers c.listed) some r; payloads = p; free = f; each = e }
+      let some = listed_some d (node_numbers c.listed) c.free e in
+      record { forward = chain_of d m 0 (node_numbers c.listed) some r; backward = backward_of d m 0 (node_numbers c.listed) some r; payloads = p; free = f; each = e }
 
 -- the links of free nodes, by what comes after each
 pub free_same : (d : Dllist) (m w : ℕ → ℕ) (c b : ℕ) (fs : List ℕ) → ((j : ℕ) → 0 < times j fs → j ≢ 0) → w b ≡ m c → ((j : ℕ) → 0 < times j fs → nexts d w j ≡ nexts d m j) → Chain d m c fs → Chain d w b fs
@@ -81,27 +81,27 @@ free_same d m w c b fs some e f h = chain_same d m w c b fs e (λ j g. let n = n
 
 -- ---- payloads
 
-pub payload_at : (d : Dllist) (m : ℕ → ℕ) (i : ℕ) (xs : List Listed) → 0 < times i (numbers xs) → Payloads d m xs → m (payload_cell d i) ≡ payload_of i xs
+pub payload_at : (d : Dllist) (m : ℕ → ℕ) (i : ℕ) (xs : List Listed) → 0 < times i (node_numbers xs) → Payloads d m xs → m (payload_cell d i) ≡ payload_of i xs
 payload_at d m i [] h p = absurd (omega (arith, h))
 payload_at d m i (x ∷ xs) h p = by_test (λ g. payload_at d m i xs g p.1) (x.node == i) refl
   where
-    by_test : (0 < times i (numbers xs) → m (payload_cell d i) ≡ payload_of i xs) → (t : Bool) → (x.node == i) ≡ t → m (payload_cell d i) ≡ cond t x.payload (payload_of i xs)
+    by_test : (0 < times i (node_numbers xs) → m (payload_cell d i) ≡ payload_of i xs) → (t : Bool) → (x.node == i) ≡ t → m (payload_cell d i) ≡ cond t x.payload (payload_of i xs)
     by_test rest true e = ap (λ k. m (payload_cell d k)) (sym (eqb-true x.node i e)) ∙ p.0
-    by_test rest false e = rest (has_later x.node i (numbers xs) (eqb-false x.node i e) h)
+    by_test rest false e = rest (has_later x.node i (node_numbers xs) (eqb-false x.node i e) h)
 
-pub payloads_without : (d : Dllist) (m : ℕ → ℕ) (i : ℕ) (xs : List Listed) → Payloads d m xs → Payloads d m (without i xs)
+pub payloads_without : (d : Dllist) (m : ℕ → ℕ) (i : ℕ) (xs : List Listed) → Payloads d m xs → Payloads d m (without_node i xs)
 payloads_without d m i [] p = tt
 payloads_without d m i (x ∷ xs) p = by_test (payloads_without d m i xs p.1) (x.node == i)
   where
-    by_test : Payloads d m (without i xs) → (t : Bool) → Payloads d m (cond t xs (x ∷ without i xs))
+    by_test : Payloads d m (without_node i xs) → (t : Bool) → Payloads d m (cond t xs (x ∷ without_node i xs))
     by_test rest true = p.1
     by_test rest false = (p.0, rest)
 
-pub numbers-without : (i : ℕ) (xs : List Listed) → numbers (without i xs) ≡ less i (numbers xs)
+pub numbers-without : (i : ℕ) (xs : List Listed) → node_numbers (without_node i xs) ≡ less i (node_numbers xs)
 numbers-without i [] = refl
 numbers-without i (x ∷ xs) = by_test (numbers-without i xs) (x.node == i)
   where
-    by_test : numbers (without i xs) ≡ less i (numbers xs) → (t : Bool) → numbers (cond t xs (x ∷ without i xs)) ≡ cond t (numbers xs) (x.node ∷ less i (numbers xs))
+    by_test : node_numbers (without_node i xs) ≡ less i (node_numbers xs) → (t : Bool) → node_numbers (cond t xs (x ∷ without_node i xs)) ≡ cond t (node_numbers xs) (x.node ∷ less i (node_numbers xs))
     by_test e true = refl
     by_test e false = ap (λ ns. x.node ∷ ns) e
 
@@ -109,10 +109,10 @@ numbers-without i (x ∷ xs) = by_test (numbers-without i xs) (x.node == i)
 pub record IsLast (d : Dllist) (m : ℕ → ℕ) (xs : List Listed) : Type 0 where
   pub payload : ℕ
   pub reply : last_reply xs ≡ reply.Value payload
-  pub listed : 0 < times (m (last_cell d)) (numbers xs)
+  pub listed : 0 < times (m (last_cell d)) (node_numbers xs)
   pub held : m (payload_cell d (m (last_cell d))) ≡ payload
 
-pub last_is : (d : Dllist) (m : ℕ → ℕ) (p : ℕ) (x : Listed) (xs : List Listed) → Backward d m p (numbers (x ∷ xs)) → Payloads d m (x ∷ xs) → IsLast d m (x ∷ xs)
+pub last_is : (d : Dllist) (m : ℕ → ℕ) (p : ℕ) (x : Listed) (xs : List Listed) → Backward d m p (node_numbers (x ∷ xs)) → Payloads d m (x ∷ xs) → IsLast d m (x ∷ xs)
 last_is d m p x [] b q = record {
   payload = x.payload;
   reply = refl;
@@ -122,6 +122,6 @@ last_is d m p x [] b q = record {
 last_is d m p x (y ∷ ys) b q = let r = last_is d m x.node y ys b.1 q.1 in record {
   payload = r.payload;
   reply = r.reply;
-  listed = has_rest x.node (m (last_cell d)) (numbers (y ∷ ys)) r.listed;
+  listed = has_rest x.node (m (last_cell d)) (node_numbers (y ∷ ys)) r.listed;
   held = r.held;
 }

@@ -18,8 +18,8 @@ first_cell d = d.base.0
 abbrev pub last_cell : Dllist → ℕ
 last_cell d = d.base.0 + 1
 
-abbrev pub free_cell : Dllist → ℕ
-free_cell d = d.base.0 + 2
+abbrev pub list_free_cell : Dllist → ℕ
+list_free_cell d = d.base.0 + 2
 
 -- the cells of a node, which has a number from 1 to the capacity
 abbrev pub payload_cell : Dllist → ℕ → ℕ
@@ -28,8 +28,8 @@ payload_cell d i = d.base.0 + 3 * i
 abbrev pub prev_cell : Dllist → ℕ → ℕ
 prev_cell d i = d.base.0 + 3 * i + 1
 
-abbrev pub next_cell : Dllist → ℕ → ℕ
-next_cell d i = d.base.0 + 3 * i + 2
+abbrev pub list_next_cell : Dllist → ℕ → ℕ
+list_next_cell d i = d.base.0 + 3 * i + 2
 
 abbrev pub IsNode : Dllist → ℕ → Type 0
 IsNode d i = (0 < i) × (i ≤ d.cap)
@@ -38,8 +38,8 @@ abbrev pub dllist_cells : Dllist → ℕ
 dllist_cells d = 3 + 3 * d.cap
 
 -- a number above its cells
-abbrev pub cells_end : Dllist → ℕ
-cells_end d = d.base.0 + 3 + 3 * d.cap
+abbrev pub list_cells_end : Dllist → ℕ
+list_cells_end d = d.base.0 + 3 + 3 * d.cap
 
 -- ---- by cells
 
@@ -53,7 +53,7 @@ dllist_opening d c = cond (c % 3 == 2) (node_in d (c / 3 + 1)) 0
 
 -- the cell that says which node comes after this one; after 0, the first one
 abbrev pub after_cell : Dllist → ℕ → ℕ
-after_cell d i = cond (i == 0) (first_cell d) (next_cell d i)
+after_cell d i = cond (i == 0) (first_cell d) (list_next_cell d i)
 
 -- the cell that says which node comes before this one; before 0, the last one
 abbrev pub before_cell : Dllist → ℕ → ℕ
@@ -61,7 +61,7 @@ before_cell d i = cond (i == 0) (last_cell d) (prev_cell d i)
 
 -- a node's neighbours become each other's
 abbrev pub unlink_program : Dllist → ℕ → (Unit {0} → Program) → Program
-unlink_program d i k = read (prev_cell d i) (λ p. read (next_cell d i) (λ n.
+unlink_program d i k = read (prev_cell d i) (λ p. read (list_next_cell d i) (λ n.
     write (after_cell d (node_in d p)) (node_in d n)
     (write (before_cell d (node_in d n)) (node_in d p) (k tt))))
 
@@ -69,22 +69,22 @@ unlink_program d i k = read (prev_cell d i) (λ p. read (next_cell d i) (λ n.
 abbrev pub lead_program : Dllist → ℕ → ℕ → (Unit {0} → Program) → Program
 lead_program d i h k =
     write (prev_cell d i) 0
-    (write (next_cell d i) h
+    (write (list_next_cell d i) h
     (write (before_cell d h) i
     (write (first_cell d) i (k tt))))
 
 -- the first free node f is taken, and listed first
-abbrev pub take_program : Dllist → ℕ → ℕ → (Reply → Program) → Program
-take_program d v f k = read (next_cell d f) (λ n.
-    write (free_cell d) (node_in d n)
+abbrev pub take_node_program : Dllist → ℕ → ℕ → (Reply → Program) → Program
+take_node_program d v f k = read (list_next_cell d f) (λ n.
+    write (list_free_cell d) (node_in d n)
     (read (first_cell d) (λ h.
     write (payload_cell d f) v (lead_program d f (node_in d h) (λ _. k (reply.Value f))))))
 
 -- a node that was unlinked becomes the first free one, and its payload is the reply
 abbrev pub release_program : Dllist → ℕ → (Reply → Program) → Program
-release_program d i k = read (free_cell d) (λ f.
-    write (next_cell d i) (node_in d f)
-    (write (free_cell d) i
+release_program d i k = read (list_free_cell d) (λ f.
+    write (list_next_cell d i) (node_in d f)
+    (write (list_free_cell d) i
     (read (payload_cell d i) (λ v. k (reply.Value v)))))
 
 -- a node that was unlinked is listed first
@@ -93,7 +93,7 @@ bring_program d i k = read (first_cell d) (λ h. lead_program d i (node_in d h) 
 
 -- what an operation does, and what comes behind its reply
 unfoldable pub dllist_program : Dllist → DllistAct → (Reply → Program) → Program
-dllist_program d (act.PushFront v) k = read (free_cell d) (λ f. cond (node_in d f == 0) (k reply.Full) (take_program d v (node_in d f) k))
+dllist_program d (act.PushFront v) k = read (list_free_cell d) (λ f. cond (node_in d f == 0) (k reply.Full) (take_node_program d v (node_in d f) k))
 dllist_program d (act.Remove i) k = unlink_program d i (λ _. release_program d i k)
 dllist_program d (act.MoveFront i) k = read (first_cell d) (λ f. cond (node_in d f == i) (k reply.Unit) (unlink_program d i (λ _. bring_program d i k)))
 dllist_program d act.Last k = read (last_cell d) (λ l. cond (node_in d l == 0) (k reply.Empty) (read (payload_cell d (node_in d l)) (λ v. k (reply.Value v))))
@@ -103,7 +103,7 @@ dllist_meaning o = meaning (dllist_program o.list o.act replies)
 
 -- the number behind its last location
 abbrev pub dllist_end : DllistOp → ℕ
-dllist_end o = cells_end o.list
+dllist_end o = list_cells_end o.list
 
 -- no location of it is below this one
 abbrev pub dllist_begin : DllistOp → ℕ

@@ -2,7 +2,7 @@
 
 ghost use Rattle.std.specs.Prelude.{◌≡◌, ◌<◌, ◌≤◌};
 ghost use Rattle.kc_xt.specs.Steps.{Does};
-ghost use Rattle.kc_dllist.specs.Meaning.{dllist_program, unlink_program, lead_program, IsNode, cells_end};
+ghost use Rattle.kc_dllist.specs.Meaning.{dllist_program, unlink_program, lead_program, IsNode, list_cells_end};
 
 use crate::dllist::Dllist;
 use crate::layout::{after_of, before_of, node_of};
@@ -17,7 +17,7 @@ impl Dllist {
     ///
     /// As `run` of the operation.
     pub fn push_front<P: Peek>(self, payload: u32, xt: &mut Xt<P>) -> Result<Reply, Stop>
-        requires within { cells_end self ≤ P.locations xt.old.peek }
+        requires within { list_cells_end self ≤ P.locations xt.old.peek }
         ensures goes { Does P.peek_gives (dllist_program self (DllistAct.PushFront payload)) xt.old result xt.new }
         ensures size { P.locations xt.new.peek ≡ P.locations xt.old.peek }
     {
@@ -41,7 +41,7 @@ impl Dllist {
     /// As `run` of the operation.
     pub fn remove<P: Peek>(self, node: u32, xt: &mut Xt<P>) -> Result<Reply, Stop>
         requires node { IsNode self node }
-        requires within { cells_end self ≤ P.locations xt.old.peek }
+        requires within { list_cells_end self ≤ P.locations xt.old.peek }
         ensures goes { Does P.peek_gives (dllist_program self (DllistAct.Remove node)) xt.old result xt.new }
         ensures size { P.locations xt.new.peek ≡ P.locations xt.old.peek }
     {
@@ -60,7 +60,7 @@ impl Dllist {
     /// As `run` of the operation.
     pub fn move_front<P: Peek>(self, node: u32, xt: &mut Xt<P>) -> Result<Reply, Stop>
         requires node { IsNode self node }
-        requires within { cells_end self ≤ P.locations xt.old.peek }
+        requires within { list_cells_end self ≤ P.locations xt.old.peek }
         ensures goes { Does P.peek_gives (dllist_program self (DllistAct.MoveFront node)) xt.old result xt.new }
         ensures size { P.locations xt.new.peek ≡ P.locations xt.old.peek }
     {
@@ -81,7 +81,7 @@ impl Dllist {
     ///
     /// As `run` of the operation.
     pub fn last<P: Peek>(self, xt: &mut Xt<P>) -> Result<Reply, Stop>
-        requires within { cells_end self ≤ P.locations xt.old.peek }
+        requires within { list_cells_end self ≤ P.locations xt.old.peek }
         ensures goes { Does P.peek_gives (dllist_program self DllistAct.Last) xt.old result xt.new }
         ensures size { P.locations xt.new.peek ≡ P.locations xt.old.peek }
     {
@@ -98,7 +98,7 @@ impl Dllist {
 // A node's neighbours become each other's.
 fn unlink<P: Peek>(list: Dllist, node: u32, xt: &mut Xt<P>) -> Result<(), Stop>
     requires node { IsNode list node }
-    requires within { cells_end list ≤ P.locations xt.old.peek }
+    requires within { list_cells_end list ≤ P.locations xt.old.peek }
     ensures goes { Does P.peek_gives (unlink_program list node) xt.old result xt.new }
     ensures size { P.locations xt.new.peek ≡ P.locations xt.old.peek }
 {
@@ -115,7 +115,7 @@ fn unlink<P: Peek>(list: Dllist, node: u32, xt: &mut Xt<P>) -> Result<(), Stop>
 fn lead<P: Peek>(list: Dllist, node: u32, behind: u32, xt: &mut Xt<P>) -> Result<(), Stop>
     requires node { IsNode list node }
     requires behind { behind ≤ list.cap }
-    requires within { cells_end list ≤ P.locations xt.old.peek }
+    requires within { list_cells_end list ≤ P.locations xt.old.peek }
     ensures goes { Does P.peek_gives (lead_program list node behind) xt.old result xt.new }
     ensures size { P.locations xt.new.peek ≡ P.locations xt.old.peek }
 {

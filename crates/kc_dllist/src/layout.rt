@@ -1,7 +1,7 @@
 //! What a list is made of.
 
 ghost use Rattle.std.specs.Prelude.{◌≡◌, ◌+◌, ◌*◌, ◌<◌, ◌≤◌};
-ghost use Rattle.kc_dllist.specs.Meaning.{dllist_cells, dllist_opening, node_in, after_cell, before_cell, cells_end};
+ghost use Rattle.kc_dllist.specs.Meaning.{dllist_cells, dllist_opening, node_in, after_cell, before_cell, list_cells_end};
 
 use crate::dllist::Dllist;
 use kc_model::{Loc, MOST_LOCATIONS};
@@ -74,7 +74,7 @@ pub(crate) fn node_of(list: Dllist, number: u32) -> u32
 pub(crate) fn after_of(list: Dllist, node: u32) -> Loc
     requires node { node ≤ list.cap }
     ensures is { result.0 ≡ after_cell list node }
-    ensures within { result.0 < cells_end list }
+    ensures within { result.0 < list_cells_end list }
 {
     if node == 0 {
         return list.base;
@@ -86,7 +86,7 @@ pub(crate) fn after_of(list: Dllist, node: u32) -> Loc
 pub(crate) fn before_of(list: Dllist, node: u32) -> Loc
     requires node { node ≤ list.cap }
     ensures is { result.0 ≡ before_cell list node }
-    ensures within { result.0 < cells_end list }
+    ensures within { result.0 < list_cells_end list }
 {
     if node == 0 {
         return Loc(list.base.0 + 1);

@@ -4,7 +4,7 @@ ghost use Rattle.std.specs.Prelude.{◌≡◌, ◌≤◌, drop, All};
 ghost use Rattle.kc_model.specs.Store.{store_of};
 ghost use Rattle.kc_xt.specs.Meaning.{values};
 ghost use Rattle.kc_dllist.specs.Meaning.{IsNode};
-ghost use Rattle.kc_dllist.specs.Content.{Content, StandsFor, walked, first_listed};
+ghost use Rattle.kc_dllist.specs.Content.{ListContent, ListStandsFor, walked, first_listed};
 
 use crate::dllist::Dllist;
 use crate::layout::node_of;
@@ -41,7 +41,7 @@ impl Dllist {
     pub fn nodes<'a>(&self, store: &'a PlainStore) -> Nodes<'a>
         ensures walk { result ≡ walked self.now (values (store_of store.now)) }
         ensures nodes { All (λ x. IsNode self.now x.node) result }
-        ensures content { (c : Content) → StandsFor self.now (values (store_of store.now)) c → result ≡ c.listed }
+        ensures content { (c : ListContent) → ListStandsFor self.now (values (store_of store.now)) c → result ≡ c.listed }
     {
         let first = value_at(store, self.base);
         Nodes {

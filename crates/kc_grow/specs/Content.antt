@@ -1,9 +1,9 @@
 -- A table that grows as a finite map.
 use Rattle.std.specs.Prelude.{◌≡◌, ℕ, ◌+◌, ◌-◌, ◌<◌, ◌≤◌, ◌==◌, nat_lt, cond, List, length}
 use Rattle.kc_chain.specs.Content as chains
-use Rattle.kc_chain.specs.Content.{StandsFor, after, found_reply, node_opening, put_value, value_at, without_key}
+use Rattle.kc_chain.specs.Content.{ChainsStandFor, pairs_after, found_reply, node_opening, put_value, value_at, without_key}
 use Rattle.kc_chain.specs.Meaning.{count_cell, head_cell}
-use Rattle.kc_grow.specs.Meaning.{buckets_cell, buckets_of, bucket_of, chains_of}
+use Rattle.kc_grow.specs.Meaning.{buckets_cell, buckets_of, grown_bucket, grown_chains}
 use Rattle.kc_grow.specs.declared.grow.Grow.{Grow}
 use Rattle.kc_grow.specs.declared.operation.GrowAct.{GrowAct}
 use Rattle.kc_grow.specs.declared.operation.GrowAct.TheVariants as act
@@ -17,13 +17,13 @@ pub record GrowStands (g : Grow) (m : ℕ → ℕ) (pairs : List (ℕ × ℕ)) :
   pub is : m (buckets_cell g) ≡ buckets
   pub some : 1 ≤ buckets
   pub most : buckets ≤ g.cap
-  pub idle : (b : ℕ) → buckets ≤ b → b < g.cap → m (head_cell (chains_of g buckets) b) ≡ 0
-  pub enough : m (count_cell (chains_of g buckets)) ≤ buckets
-  pub stands : StandsFor (chains_of g buckets) (bucket_of buckets) m pairs
+  pub idle : (b : ℕ) → buckets ≤ b → b < g.cap → m (head_cell (grown_chains g buckets) b) ≡ 0
+  pub enough : m (count_cell (grown_chains g buckets)) ≤ buckets
+  pub stands : ChainsStandFor (grown_chains g buckets) (grown_bucket buckets) m pairs
 
 -- the pairs that its cells show, whatever they hold
-abbrev pub shown : Grow → (ℕ → ℕ) → List (ℕ × ℕ)
-shown g m = chains.shown (chains_of g (buckets_of g (m (buckets_cell g)))) m
+abbrev pub grown_shown : Grow → (ℕ → ℕ) → List (ℕ × ℕ)
+grown_shown g m = chains.chain_shown (grown_chains g (buckets_of g (m (buckets_cell g)))) m
 
 -- ---- the opening
 
@@ -35,6 +35,6 @@ grow_opening g i = cond (i == 1) 1 (cond (i == 2) 1 (cond (nat_lt i (3 + g.cap))
 
 abbrev pub grow_value : Grow → GrowAct → List (ℕ × ℕ) → Value (List (ℕ × ℕ))
 grow_value g (act.Put key value) pairs = put_value g.cap key value pairs (value_at pairs key)
-grow_value g (act.Find key) pairs = after (found_reply (value_at pairs key)) pairs
-grow_value g (act.Del key) pairs = after (found_reply (value_at pairs key)) (without_key pairs key)
-grow_value g act.Len pairs = after (reply.Value (length pairs)) pairs
+grow_value g (act.Find key) pairs = pairs_after (found_reply (value_at pairs key)) pairs
+grow_value g (act.Del key) pairs = pairs_after (found_reply (value_at pairs key)) (without_key pairs key)
+grow_value g act.Len pairs = pairs_after (reply.Value (length pairs)) pairs

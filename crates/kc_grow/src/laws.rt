@@ -5,15 +5,15 @@ ghost use Rattle.kc_model.specs.Rising.{IsRising};
 ghost use Rattle.kc_xt.specs.Structure.{MeansItsValue, KeepsWellFormed, TouchesItsOwnCells, RepliesOneItem, RunsInsideOthers, Opens, DependsOnItsCells, ContentIsOne};
 ghost use Rattle.kc_grow.specs.declared.grow.Grow.{Grow};
 ghost use Rattle.kc_grow.specs.declared.operation.GrowOp.{GrowOp};
-ghost use Rattle.kc_grow.specs.Content.{GrowStands, grow_value, grow_opening, shown};
-ghost use Rattle.kc_grow.specs.Meaning.{bucket_of, moves, power_of, grow_meaning, grow_program, grow_begin, grow_end, grow_end_of, grow_cells};
+ghost use Rattle.kc_grow.specs.Content.{GrowStands, grow_value, grow_opening, grown_shown};
+ghost use Rattle.kc_grow.specs.Meaning.{grown_bucket, moves, power_of, grow_meaning, grow_program, grow_begin, grow_end, grow_end_of, grow_cells};
 
 /// Of one bucket more: the keys that move go from one bucket to the new one, and no other key moves.
 pub fn one_bucket_gives_keys()
-    ensures below { (n key : ℕ) → 1 ≤ n → n < 65536 → bucket_of n key < n }
-    ensures from { (n key : ℕ) → 1 ≤ n → n + 1 < 65536 → moves n key ≡ true → bucket_of n key ≡ n - power_of n }
-    ensures to { (n key : ℕ) → 1 ≤ n → n + 1 < 65536 → moves n key ≡ true → bucket_of (n + 1) key ≡ n }
-    ensures stays { (n key : ℕ) → 1 ≤ n → n + 1 < 65536 → moves n key ≡ false → bucket_of (n + 1) key ≡ bucket_of n key }
+    ensures below { (n key : ℕ) → 1 ≤ n → n < 65536 → grown_bucket n key < n }
+    ensures from { (n key : ℕ) → 1 ≤ n → n + 1 < 65536 → moves n key ≡ true → grown_bucket n key ≡ n - power_of n }
+    ensures to { (n key : ℕ) → 1 ≤ n → n + 1 < 65536 → moves n key ≡ true → grown_bucket (n + 1) key ≡ n }
+    ensures stays { (n key : ℕ) → 1 ≤ n → n + 1 < 65536 → moves n key ≡ false → grown_bucket (n + 1) key ≡ grown_bucket n key }
 {}
 
 /// On cells that stand for a finite map, an operation that isn't too large means what it does to the map: the same reply,
@@ -48,7 +48,7 @@ pub fn opens_empty()
 pub fn content_is_one()
     ensures own { (g : Grow) → DependsOnItsCells (GrowStands g) g.base.0 (grow_end_of g) }
     ensures one { (g : Grow) → ContentIsOne (GrowStands g) }
-    ensures shown { (g : Grow) (m : ℕ → ℕ) (pairs : List (ℕ × ℕ)) → GrowStands g m pairs → shown g m ≡ pairs }
+    ensures shown { (g : Grow) (m : ℕ → ℕ) (pairs : List (ℕ × ℕ)) → GrowStands g m pairs → grown_shown g m ≡ pairs }
     ensures rising { (g : Grow) (m : ℕ → ℕ) (pairs : List (ℕ × ℕ)) → GrowStands g m pairs → IsRising (map (λ p. p.0) pairs) }
     ensures within { (g : Grow) (m : ℕ → ℕ) (pairs : List (ℕ × ℕ)) → GrowStands g m pairs → length pairs ≤ g.cap }
 {}

@@ -2,7 +2,7 @@
 
 ghost use Rattle.std.specs.Prelude.{◌≡◌, ◌≤◌, ◌<◌, ◌+◌, ◌*◌};
 ghost use Rattle.std.specs.Int.Count.{count_leading_zeros};
-ghost use Rattle.kc_grow.specs.Meaning.{grow_cells, buckets_of, bucket_of, chains_of, power_of, wide, moves};
+ghost use Rattle.kc_grow.specs.Meaning.{grow_cells, buckets_of, grown_bucket, grown_chains, power_of, wide, moves};
 ghost use Rattle.kc_grow.specs.Content.{grow_opening};
 
 use crate::grow::Grow;
@@ -72,7 +72,7 @@ impl Grow {
 
     // Its chains, where it has so many buckets.
     pub(crate) fn chains(self, buckets: u32) -> Chains
-        ensures { result ≡ chains_of self buckets }
+        ensures { result ≡ grown_chains self buckets }
     {
         Chains {
             base: self.base,
@@ -117,7 +117,7 @@ fn wide_bucket(buckets: u32, key: u32) -> u32
 pub(crate) fn bucket(buckets: u32, key: u32) -> u32
     requires some { 1 ≤ buckets }
     requires most { buckets < 65536 }
-    ensures is { result ≡ bucket_of buckets key }
+    ensures is { result ≡ grown_bucket buckets key }
     ensures within { result < buckets }
 {
     folded(buckets, key)
@@ -127,7 +127,7 @@ pub(crate) fn bucket(buckets: u32, key: u32) -> u32
 fn folded(buckets: u32, key: u32) -> u32
     requires some { 1 ≤ buckets }
     requires most { buckets < 65536 }
-    ensures { result ≡ bucket_of buckets key }
+    ensures { result ≡ grown_bucket buckets key }
 {
     let place = wide_bucket(buckets, key);
     if place < buckets {

@@ -3,7 +3,7 @@ use Rattle.std.proofs.Common.{◌≡◌, ◌≢◌, ◌<◌, ◌≤◌, Bool, tr
 use Rattle.std.specs.Prelude.{All}
 use Rattle.arrayvec.specs.ArrayVec.{ArrayVec}
 use Rattle.kc_hang.proofs.Tasks.{step_shows}
-use Rattle.kc_hang.specs.Hanging.{GoesOn, MayHang, MayStart, MayStep, RunsTask, Shows, is_under_way, may_step, state_at, stepping, task_in, task_of}
+use Rattle.kc_hang.specs.Hanging.{HangGoesOn, MayHang, MayStart, MayStep, RunsTask, ShowsHang, is_under_way, may_step, state_at, stepping, task_in, task_of}
 use Rattle.kc_hang.specs.HangView.{HangView}
 use Rattle.kc_hang.specs.declared.hang_state.HangState.{HangState}
 use Rattle.kc_hang.specs.declared.hang_state.HangState.TheVariants.{Going, Hung, Leaving, Free}
@@ -18,7 +18,7 @@ use Rattle.kc_model.specs.declared.footprint.Seen.{Seen}
 use Rattle.kc_model.specs.declared.footprint.TheConstants.{MOST}
 use Rattle.kc_table.specs.kc_table_moves.Views.{KnowsReads, SeatView, Starts, Stepped}
 use Rattle.kc_table_laws.proofs.Following.{does_first, does_further}
-use Rattle.kc_table_laws.specs.Tasks.{Does}
+use Rattle.kc_table_laws.specs.Tasks.{DoesTask}
 
 -- ---- the beginning of a state's task
 
@@ -91,14 +91,14 @@ runs_stepping h v e may = go h.begun may
     go true g = g.runs
 
 module _ (h : HangView) (v w : SeatView) (e : is_under_way h.state ≡ true) (may : MayStep h v) where
-  pub step_begins : h.begun ≡ false → IsWellMadeTask v.of.origin.locations (task_of h) → Stepped (stepping h v) w → Does v (task_of h) w
+  pub step_begins : h.begun ≡ false → IsWellMadeTask v.of.origin.locations (task_of h) → Stepped (stepping h v) w → DoesTask v (task_of h) w
   step_begins first well s =
       let m : MayStart h.state v = subst (λ b. may_step b h v) first may in
       does_first v (record v { seat = begun v.seat (task_of h); began = true }) w (task_of h) (starts v h e m) well refl (rw first at s)
 
-  pub step_further : h.begun ≡ true → Stepped (stepping h v) w → (u : SeatView) → Does u (task_of h) v → Does u (task_of h) w
+  pub step_further : h.begun ≡ true → Stepped (stepping h v) w → (u : SeatView) → DoesTask u (task_of h) v → DoesTask u (task_of h) w
   step_further later s u d =
-      let g : GoesOn h.state h.reads v = subst (λ b. may_step b h v) later may in
+      let g : HangGoesOn h.state h.reads v = subst (λ b. may_step b h v) later may in
       does_further u v w v.seat (task_of h) d g.shown (rw later at s)
 
   pub busy_stepping : is_idle (stepping h v).seat.work ≡ false
@@ -108,10 +108,10 @@ module _ (h : HangView) (v w : SeatView) (e : is_under_way h.state ≡ true) (ma
       go false m = (begins h.state h.reads v.seat e m.0 m.1).busy
       go true g = runs_busy (task_of h) v.seat.work g.runs
 
-  pub step_comes : Stepped (stepping h v) w → Shows h.reads h.state (state_at h.state w.seat) w
+  pub step_comes : Stepped (stepping h v) w → ShowsHang h.reads h.state (state_at h.state w.seat) w
   step_comes s = go h.begun may s
     where
-      go : (b : Bool) → may_step b h v → Stepped (if b then v else record v { seat = begun v.seat (task_of h); began = true }) w → Shows h.reads h.state (state_at h.state w.seat) w
+      go : (b : Bool) → may_step b h v → Stepped (if b then v else record v { seat = begun v.seat (task_of h); began = true }) w → ShowsHang h.reads h.state (state_at h.state w.seat) w
       go false m s = let x = begins h.state h.reads v.seat e m.0 m.1 in step_shows h.state h.reads (begun v.seat (task_of h)) _ w e x.runs x.may s.began (s.seat ∙ s.steps.stands)
       go true g s = step_shows h.state h.reads v.seat _ w e g.runs g.may s.began (s.seat ∙ s.steps.stands)
 
@@ -120,7 +120,7 @@ module _ (h : HangView) (v w : SeatView) (e : is_under_way h.state ≡ true) (ma
 -- a hanging whose state has begun no task, and its caller, later on: as they were, or behind steps of that task
 pub data Stepping (h : HangView) (v : SeatView) : HangView → SeatView → Type 0 where
   before : Stepping h v h v
-  amid : (k : HangView) (w : SeatView) → k ≡ record h { begun = true } → Does v (task_of h) w → GoesOn h.state h.reads w → Stepping h v k w
+  amid : (k : HangView) (w : SeatView) → k ≡ record h { begun = true } → DoesTask v (task_of h) w → HangGoesOn h.state h.reads w → Stepping h v k w
 
 module _ (h : HangView) (v : SeatView) (first : h.begun ≡ false) (start : MayStart h.state v) where
   pub may_go_on : (k : HangView) (w : SeatView) → Stepping h v k w → MayStep k w
@@ -131,22 +131,22 @@ module _ (h : HangView) (v : SeatView) (first : h.begun ≡ false) (start : MayS
   same_hanging k w before = (refl, refl, refl)
   same_hanging k w (amid x y is d g) = (ap (λ (z : HangView). z.state) is, ap (λ (z : HangView). z.reads) is, d.of)
 
-  module _ (k : HangView) (u : SeatView) (at : Stepping h v k u) (w : SeatView) (begins : k.begun ≡ false → Does u (task_of k) w) (further : k.begun ≡ true → (x : SeatView) → Does x (task_of k) u → Does x (task_of k) w) where
-    pub does_on : Does v (task_of h) w
+  module _ (k : HangView) (u : SeatView) (at : Stepping h v k u) (w : SeatView) (begins : k.begun ≡ false → DoesTask u (task_of k) w) (further : k.begun ≡ true → (x : SeatView) → DoesTask x (task_of k) u → DoesTask x (task_of k) w) where
+    pub does_on : DoesTask v (task_of h) w
     does_on = go k u at begins further
       where
-        go : (k : HangView) (u : SeatView) → Stepping h v k u → (k.begun ≡ false → Does u (task_of k) w) → ((k.begun ≡ true) → (x : SeatView) → Does x (task_of k) u → Does x (task_of k) w) → Does v (task_of h) w
+        go : (k : HangView) (u : SeatView) → Stepping h v k u → (k.begun ≡ false → DoesTask u (task_of k) w) → ((k.begun ≡ true) → (x : SeatView) → DoesTask x (task_of k) u → DoesTask x (task_of k) w) → DoesTask v (task_of h) w
         go k u before b f = b first
         go k u (amid x y is d g) b f =
             let t : task_of k ≡ task_of h = ap (λ (z : HangView). task_of z) is in
-            subst (λ t. Does v t w) t (f (ap (λ (z : HangView). z.begun) is) v (subst (λ t. Does v t u) (sym t) d))
+            subst (λ t. DoesTask v t w) t (f (ap (λ (z : HangView). z.begun) is) v (subst (λ t. DoesTask v t u) (sym t) d))
 
-    module _ (state : HangState) (shows : Shows k.reads k.state state w) where
-      pub shows_on : Shows h.reads h.state state w
-      shows_on = let s = same_hanging k u at in subst (λ rs. Shows rs h.state state w) s.1 (subst (λ st. Shows k.reads st state w) s.0 shows)
+    module _ (state : HangState) (shows : ShowsHang k.reads k.state state w) where
+      pub shows_on : ShowsHang h.reads h.state state w
+      shows_on = let s = same_hanging k u at in subst (λ rs. ShowsHang rs h.state state w) s.1 (subst (λ st. ShowsHang k.reads st state w) s.0 shows)
 
       -- the state lasts
-      lasts : (a b : HangState) → is_under_way b ≡ true → Shows h.reads a b w → (b ≡ a) × GoesOn a h.reads w
+      lasts : (a b : HangState) → is_under_way b ≡ true → ShowsHang h.reads a b w → (b ≡ a) × HangGoesOn a h.reads w
       lasts Going Going e x = (refl, x)
       lasts Leaving Leaving e x = (refl, x)
       lasts Going Leaving e x = elim x [ ]

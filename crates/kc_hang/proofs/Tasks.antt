@@ -2,11 +2,11 @@
 use Rattle.std.proofs.Common.{◌≡◌, Bool, true, false, ℕ, ◌==◌, List, Option, None, Some, refl, if◌then◌else◌}
 use Rattle.std.specs.Prelude.{slice_get}
 use Rattle.arrayvec.specs.ArrayVec.{ArrayVec}
-use Rattle.kc_hang.specs.Hanging.{MayHang, RunsTask, Shows, is_under_way, state_at, task_in}
+use Rattle.kc_hang.specs.Hanging.{MayHang, RunsTask, ShowsHang, is_under_way, state_at, task_in}
 use Rattle.kc_hang.specs.declared.hang_state.HangState.{HangState}
 use Rattle.kc_hang.specs.declared.hang_state.HangState.TheVariants.{Going, Hung, Leaving, Free}
-use Rattle.kc_table.specs.kc_machine.Hangs.{clear_or_changed, hang_next, hang_step, hangs_on, leaves_on, look_goes_on, look_of, look_or_end, next_read, onward_of, unblocks_or_tells}
-use Rattle.kc_table.specs.kc_machine.Seats.{after, answer_by, answer_of}
+use Rattle.kc_table.specs.kc_machine.Hangs.{clear_or_changed, hang_next, hang_step, hangs_on, leaves_on, look_goes_on, hang_look_next, look_or_end, next_read, onward_of, unblocks_or_tells}
+use Rattle.kc_table.specs.kc_machine.Seats.{seat_after, answer_by, seat_answered}
 use Rattle.kc_table.specs.kc_machine.Waits.{Hang, Leave}
 use Rattle.kc_table.specs.kc_machine.Works.{Work}
 use Rattle.kc_table.specs.kc_machine.Works as work
@@ -54,7 +54,7 @@ went : (reads : List Seen) (k expected : ℕ) (n : LookNext) → hangs (look_goe
 went reads k expected (looking.Goes step) = refl
 went reads k expected (looking.Saw seen) = agreed reads k (seen.version == expected)
 
-looks_on : (reads : List Seen) (k : ℕ) (step : LookStep) (f : Found) (o : Option Seen) → hangs (look_of reads k step f o) ≡ true
+looks_on : (reads : List Seen) (k : ℕ) (step : LookStep) (f : Found) (o : Option Seen) → hangs (hang_look_next reads k step f o) ≡ true
 looks_on reads k step f None = refl
 looks_on reads k step f (Some r) = went reads k r.version (look_next r.loc step f)
 
@@ -67,9 +67,9 @@ next_hangs reads (hang.Clear k changed) f = cleared changed (after_line k) (slic
 
 module _ (s : Seat) (reads : ArrayVec Seen) (w : SeatView) (shown : w.began ≡ false) where
   abbrev Behind : HangState → Seat → Type 0
-  Behind state r = w.seat ≡ r → Shows reads state (state_at state w.seat) w
+  Behind state r = w.seat ≡ r → ShowsHang reads state (state_at state w.seat) w
 
-  hang_shows : (h : Hang) (n : HangNext) → h.reads ≡ reads → s.blocked ≡ false → hangs n ≡ true → Behind Going (after (record s { work = work.Hang (hangs_on h n) }) (onward_of n))
+  hang_shows : (h : Hang) (n : HangNext) → h.reads ≡ reads → s.blocked ≡ false → hangs n ≡ true → Behind Going (seat_after (record s { work = work.Hang (hangs_on h n) }) (onward_of n))
   hang_shows h (Goes step) same free e is = rw is (record { shown = shown; runs = same; may = free })
   hang_shows h (Tells told.Hung) same free e is = rw is (refl, refl)
   hang_shows h (Tells (told.Changed i)) same free e is = rw is (refl, (i, refl), free)
@@ -81,7 +81,7 @@ module _ (s : Seat) (reads : ArrayVec Seen) (w : SeatView) (shown : w.began ≡ 
   hang_shows h (Tells told.Worn) same free e is = absurd (cc)
   hang_shows h (Tells told.Free) same free e is = absurd (cc)
 
-  leave_shows : (l : Leave) (k : ℕ) (o : Option Seen) → l.reads ≡ reads → Behind Leaving (after (record s { work = work.Leave (leaves_on l k o) }) (unblocks_or_tells o))
+  leave_shows : (l : Leave) (k : ℕ) (o : Option Seen) → l.reads ≡ reads → Behind Leaving (seat_after (record s { work = work.Leave (leaves_on l k o) }) (unblocks_or_tells o))
   leave_shows l k None same is = rw is (refl, refl, refl)
   leave_shows l k (Some r) same is = rw is (record { shown = shown; runs = same; may = tt })
 
@@ -101,11 +101,11 @@ module _ (s : Seat) (reads : ArrayVec Seen) (w : SeatView) (shown : w.began ≡ 
   leaving f (work.Commit c) same = elim same [ ]
   leaving f (work.Hang h) same = elim same [ ]
 
-  answered : (state : HangState) (f : Found) → is_under_way state ≡ true → RunsTask (task_in state reads) s.work → MayHang state s → Behind state (answer_of s f)
+  answered : (state : HangState) (f : Found) → is_under_way state ≡ true → RunsTask (task_in state reads) s.work → MayHang state s → Behind state (seat_answered s f)
   answered Going f e runs may = going f s.work runs may
   answered Leaving f e runs may = leaving f s.work runs
   answered Hung f e runs may = absurd (cc)
   answered Free f e runs may = absurd (cc)
 
-pub step_shows : (state : HangState) (reads : ArrayVec Seen) (s : Seat) (f : Found) (w : SeatView) → is_under_way state ≡ true → RunsTask (task_in state reads) s.work → MayHang state s → w.began ≡ false → w.seat ≡ answer_of s f → Shows reads state (state_at state w.seat) w
+pub step_shows : (state : HangState) (reads : ArrayVec Seen) (s : Seat) (f : Found) (w : SeatView) → is_under_way state ≡ true → RunsTask (task_in state reads) s.work → MayHang state s → w.began ≡ false → w.seat ≡ seat_answered s f → ShowsHang reads state (state_at state w.seat) w
 step_shows state reads s f w e runs may shown is = answered s reads w shown state f e runs may is

@@ -44,7 +44,7 @@ MayHang Going s = s.blocked ≡ false
 MayHang _ s = Unit {0}
 
 -- it has made a step of the task of this state, and has further ones to make
-pub record GoesOn (state : HangState) (reads : ArrayVec Seen) (v : SeatView) : Type 0 where
+pub record HangGoesOn (state : HangState) (reads : ArrayVec Seen) (v : SeatView) : Type 0 where
   pub shown : v.began ≡ false
   pub runs : RunsTask (task_in state reads) v.seat.work
   pub may : MayHang state v.seat
@@ -55,7 +55,7 @@ MayStart state v = (is_idle v.seat.work ≡ true) × MayHang state v.seat
 -- the first step of a state begins its task, the others go on with it
 abbrev pub may_step : Bool → HangView → SeatView → Type 0
 may_step false h v = MayStart h.state v
-may_step true h v = GoesOn h.state h.reads v
+may_step true h v = HangGoesOn h.state h.reads v
 
 abbrev pub MayStep : HangView → SeatView → Type 0
 MayStep h v = may_step h.begun h v
@@ -76,10 +76,10 @@ abbrev pub state_at : HangState → Seat → HangState
 state_at before s = if is_idle s.work then state_told s.told else before
 
 -- from a state to the next
-abbrev pub Shows : ArrayVec Seen → HangState → HangState → SeatView → Type 0
-Shows reads Going Going v = GoesOn Going reads v
-Shows reads Going Hung v = (is_idle v.seat.work ≡ true) × (v.seat.told ≡ Some told.Hung)
-Shows reads Going Free v = (is_idle v.seat.work ≡ true) × ((i : ℕ) × (v.seat.told ≡ Some (told.Changed i))) × (v.seat.blocked ≡ false)
-Shows reads Leaving Leaving v = GoesOn Leaving reads v
-Shows reads Leaving Free v = (is_idle v.seat.work ≡ true) × (v.seat.told ≡ Some told.Free) × (v.seat.blocked ≡ false)
-Shows reads _ _ v = ⊥
+abbrev pub ShowsHang : ArrayVec Seen → HangState → HangState → SeatView → Type 0
+ShowsHang reads Going Going v = HangGoesOn Going reads v
+ShowsHang reads Going Hung v = (is_idle v.seat.work ≡ true) × (v.seat.told ≡ Some told.Hung)
+ShowsHang reads Going Free v = (is_idle v.seat.work ≡ true) × ((i : ℕ) × (v.seat.told ≡ Some (told.Changed i))) × (v.seat.blocked ≡ false)
+ShowsHang reads Leaving Leaving v = HangGoesOn Leaving reads v
+ShowsHang reads Leaving Free v = (is_idle v.seat.work ≡ true) × (v.seat.told ≡ Some told.Free) × (v.seat.blocked ≡ false)
+ShowsHang reads _ _ v = ⊥

@@ -8,15 +8,15 @@ use Rattle.kc_machine_steps.specs.declared.task.Told.{Told}
 use Rattle.kc_machine_steps.specs.declared.task.Told.TheVariants as told
 use Rattle.kc_model.specs.declared.footprint.Seen.{Seen}
 use Rattle.kc_table.specs.kc_table_moves.Views.{SeatView, Signalled}
-use Rattle.kc_table_laws.specs.Tasks.{Does}
+use Rattle.kc_table_laws.specs.Tasks.{DoesTask}
 
 -- since v the seat has done this task, and was told this
-pub record Ended (v : SeatView) (t : Task) (a : Told) (w : SeatView) : Type 0 where
-  pub does : Does v t w
+pub record TaskEnded (v : SeatView) (t : Task) (a : Told) (w : SeatView) : Type 0 where
+  pub does : DoesTask v t w
   pub idle : is_idle w.seat.work ≡ true
   pub told : w.seat.told ≡ Some a
 
 -- Since v the seat has hung on these reads: it was told that one of them had changed; or that it hangs, and then a load of its signal found it, and then it left them.
 pub data Hangs (reads : ArrayVec Seen) (v : SeatView) : SeatView → Type 0 where
-  changed : (i : ℕ) (w : SeatView) → Ended v (task.Hang reads) (told.Changed i) w → Hangs reads v w
-  signalled : (a b w : SeatView) → Ended v (task.Hang reads) told.Hung a → Signalled a true b → Ended b (task.Leave reads) told.Free w → Hangs reads v w
+  changed : (i : ℕ) (w : SeatView) → TaskEnded v (task.Hang reads) (told.Changed i) w → Hangs reads v w
+  signalled : (a b w : SeatView) → TaskEnded v (task.Hang reads) told.Hung a → Signalled a true b → TaskEnded b (task.Leave reads) told.Free w → Hangs reads v w

@@ -1,10 +1,10 @@
 //! A hang step by step.
 
 ghost use Rattle.std.specs.Prelude.{◌≡◌, ◌≢◌, ◌<◌, ◌≤◌, [], true, false, All, length};
-ghost use Rattle.kc_hang.specs.Hanging.{MayStep, Shows, is_under_way, state_at, state_told, stepping, task_of};
+ghost use Rattle.kc_hang.specs.Hanging.{MayStep, ShowsHang, is_under_way, state_at, state_told, stepping, task_of};
 ghost use Rattle.kc_table.specs.kc_machine.Schedules.{IsWellMadeTask};
 ghost use Rattle.kc_table.specs.kc_table_moves.Views.{SeatView, Stepped};
-ghost use Rattle.kc_table_laws.specs.Tasks.{Does};
+ghost use Rattle.kc_table_laws.specs.Tasks.{DoesTask};
 
 use crate::hang_state::HangState;
 use arrayvec::ArrayVec;
@@ -75,10 +75,10 @@ pub fn step(table: &KcTable, seat: &mut KcSeat, hang: &mut Hang) -> HangState
     requires under_way { is_under_way hang.old.state ≡ true }
     requires may { MayStep hang.old seat.old }
     ensures step { Stepped (stepping hang.old seat.old) seat.new }
-    ensures first { hang.old.begun ≡ false → Does seat.old (task_of hang.old) seat.new }
-    ensures further { hang.old.begun ≡ true → (v : SeatView) → Does v (task_of hang.old) seat.old → Does v (task_of hang.old) seat.new }
+    ensures first { hang.old.begun ≡ false → DoesTask seat.old (task_of hang.old) seat.new }
+    ensures further { hang.old.begun ≡ true → (v : SeatView) → DoesTask v (task_of hang.old) seat.old → DoesTask v (task_of hang.old) seat.new }
     ensures hang { hang.new ≡ record hang.old { state = result; begun = true } }
-    ensures shows { Shows hang.old.reads hang.old.state result seat.new }
+    ensures shows { ShowsHang hang.old.reads hang.old.state result seat.new }
 {
     start(seat, hang);
     table.step(seat);

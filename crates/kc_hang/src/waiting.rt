@@ -1,10 +1,10 @@
 //! A hang in one call.
 
 ghost use Rattle.std.specs.Prelude.{◌≡◌, ◌≢◌, ◌<◌, [], true, false, All};
-ghost use Rattle.kc_hang.specs.Hanging.{MayStart, Shows, is_under_way, task_of};
+ghost use Rattle.kc_hang.specs.Hanging.{MayStart, ShowsHang, is_under_way, task_of};
 ghost use Rattle.kc_hang.specs.Hangs.{Hangs};
 ghost use Rattle.kc_table.specs.kc_machine.Seats.{is_idle};
-ghost use Rattle.kc_table_laws.specs.Tasks.{Does};
+ghost use Rattle.kc_table_laws.specs.Tasks.{DoesTask};
 
 use crate::hang::{Hang, step};
 use crate::hang_state::HangState;
@@ -42,10 +42,10 @@ fn step_on<R: Wait>(rt: &R, table: &KcTable, seat: &mut KcSeat, hang: &mut Hang)
     requires below { All (λ r. r.loc.0 < table.now.origin.locations) hang.old.reads.items }
     requires under_way { is_under_way hang.old.state ≡ true }
     requires start { (hang.old.begun ≡ false) × MayStart hang.old.state seat.old }
-    ensures does { Does seat.old (task_of hang.old) seat.new }
+    ensures does { DoesTask seat.old (task_of hang.old) seat.new }
     ensures hang { hang.new ≡ record hang.old { state = result; begun = true } }
     ensures ended { is_under_way result ≡ false }
-    ensures shows { Shows hang.old.reads hang.old.state result seat.new }
+    ensures shows { ShowsHang hang.old.reads hang.old.state result seat.new }
 {
     'steps: for _ in rt.forever() {
         let state = step(table, seat, hang);

@@ -3,7 +3,7 @@ use Rattle.std.proofs.Common.{◌≡◌, ◌≢◌, ℕ, ◌+◌, ◌-◌, ◌*�
 use Rattle.kc_chain.proofs.Opens.{chains_open, link_opening}
 use Rattle.kc_chain.specs.Meaning.{count_cell, free_cell, head_cell, next_cell}
 use Rattle.kc_hash.proofs.HashLaw.{home}
-use Rattle.kc_hash.specs.Content.{StandsFor, hash_opening, node_opening}
+use Rattle.kc_hash.specs.Content.{HashStandsFor, hash_opening, node_opening}
 use Rattle.kc_hash.specs.Meaning.{chains_of, bucket_of, hash_cells}
 use Rattle.kc_hash.specs.declared.hash.Hash.{Hash}
 
@@ -29,7 +29,7 @@ module _ (h : Hash) (m : ℕ → ℕ) (opened : (i : ℕ) → i < hash_cells h �
       ∙ of_node (2 + h.buckets + (3 * (j - 1) + 2)) (3 * (j - 1) + 2) refl
       ∙ link_opening h.cap j lo
 
-  pub hash_opens : 1 ≤ h.buckets → 1 ≤ h.cap → StandsFor h m []
+  pub hash_opens : 1 ≤ h.buckets → 1 ≤ h.cap → HashStandsFor h m []
   hash_opens some room = chains_open (chains_of h) m next_opens (bucket_of h) (record { free = omega arith; heads = omega arith }) (home h) room
       (at (count_cell (chains_of h)) 0 (omega arith) (omega arith) ∙ low 0 (λ e. omega (arith, e)) (omega arith))
       (at (free_cell (chains_of h)) 1 refl (omega arith))

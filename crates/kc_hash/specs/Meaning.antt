@@ -18,8 +18,8 @@ abbrev pub hash_cells : Hash → ℕ
 hash_cells h = 2 + h.buckets + 3 * h.cap
 
 -- a number above its cells
-abbrev pub cells_end : Hash → ℕ
-cells_end h = h.base.0 + 2 + h.buckets + 3 * h.cap
+abbrev pub hash_cells_end : Hash → ℕ
+hash_cells_end h = h.base.0 + 2 + h.buckets + 3 * h.cap
 
 -- its chains
 abbrev pub chains_of : Hash → Chains
@@ -47,7 +47,7 @@ hash_meaning o = meaning (hash_program o.hash o.act replies)
 
 -- the number behind its last location
 abbrev pub hash_end : HashOp → ℕ
-hash_end o = cells_end o.hash
+hash_end o = hash_cells_end o.hash
 
 -- no location of it is below this one
 abbrev pub hash_begin : HashOp → ℕ

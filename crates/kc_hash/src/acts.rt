@@ -3,7 +3,7 @@
 ghost use Rattle.std.specs.Prelude.{◌≡◌, ◌≤◌};
 ghost use Rattle.kc_xt.specs.Steps.{Does};
 ghost use Rattle.kc_hash.specs.declared.operation.HashAct.TheVariants as act;
-ghost use Rattle.kc_hash.specs.Meaning.{hash_program, cells_end, reply_of};
+ghost use Rattle.kc_hash.specs.Meaning.{hash_program, hash_cells_end, reply_of};
 
 use crate::hash::Hash;
 use kc_chain::Placed;
@@ -17,7 +17,7 @@ impl Hash {
     ///
     /// As `Xt::get`.
     pub fn put<P: Peek>(self, key: u32, value: u32, xt: &mut Xt<P>) -> Result<Reply, Stop>
-        requires { cells_end self ≤ P.locations xt.old.peek }
+        requires { hash_cells_end self ≤ P.locations xt.old.peek }
         ensures goes { Does P.peek_gives (hash_program self (act.Put key value)) xt.old result xt.new }
         ensures size { P.locations xt.new.peek ≡ P.locations xt.old.peek }
     {
@@ -31,7 +31,7 @@ impl Hash {
     ///
     /// As `Xt::get`.
     pub fn find<P: Peek>(self, key: u32, xt: &mut Xt<P>) -> Result<Reply, Stop>
-        requires { cells_end self ≤ P.locations xt.old.peek }
+        requires { hash_cells_end self ≤ P.locations xt.old.peek }
         ensures goes { Does P.peek_gives (hash_program self (act.Find key)) xt.old result xt.new }
         ensures size { P.locations xt.new.peek ≡ P.locations xt.old.peek }
     {
@@ -44,7 +44,7 @@ impl Hash {
     ///
     /// As `Xt::get`.
     pub fn del<P: Peek>(self, key: u32, xt: &mut Xt<P>) -> Result<Reply, Stop>
-        requires { cells_end self ≤ P.locations xt.old.peek }
+        requires { hash_cells_end self ≤ P.locations xt.old.peek }
         ensures goes { Does P.peek_gives (hash_program self (act.Del key)) xt.old result xt.new }
         ensures size { P.locations xt.new.peek ≡ P.locations xt.old.peek }
     {
@@ -57,7 +57,7 @@ impl Hash {
     ///
     /// As `Xt::get`.
     pub fn length<P: Peek>(self, xt: &mut Xt<P>) -> Result<Reply, Stop>
-        requires { cells_end self ≤ P.locations xt.old.peek }
+        requires { hash_cells_end self ≤ P.locations xt.old.peek }
         ensures goes { Does P.peek_gives (hash_program self act.Len) xt.old result xt.new }
         ensures size { P.locations xt.new.peek ≡ P.locations xt.old.peek }
     {

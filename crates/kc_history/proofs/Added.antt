@@ -7,7 +7,7 @@ use Rattle.kc_model.specs.declared.footprint.Put.{Put}
 use Rattle.kc_model.specs.declared.footprint.Seen.{Seen}
 use Rattle.kc_history.specs.declared.prints.Span.{Span}
 use Rattle.kc_history.specs.Kept.{print}
-use Rattle.kc_history.specs.Spans.{LiesIn, span_print, prints_of}
+use Rattle.kc_history.specs.Spans.{SpanLiesIn, span_print, prints_of}
 
 range_kept : {A : Type 0} (xs ys : List A) (a b : ℕ) → a ≤ b → b ≤ length xs → slice_range (xs ++ ys) a b ≡ slice_range xs a b
 range_kept xs ys a b r l =
@@ -20,14 +20,14 @@ range_new xs ys a b p q =
     (ap (take (b - length xs)) (drop-append_seam xs ys) ∙ take_all (b - length xs) ys (omega (arith, p, q)))
 
 module _ (rs more : List Seen) (ps puts : List Put) where
-  print_kept : (h : Span) → LiesIn (length rs) (length ps) h → span_print (rs ++ more) (ps ++ puts) h ≡ span_print rs ps h
+  print_kept : (h : Span) → SpanLiesIn (length rs) (length ps) h → span_print (rs ++ more) (ps ++ puts) h ≡ span_print rs ps h
   print_kept h l i = record { reads = record { items = range_kept rs more h.reads_from h.reads_to l.reads_rise l.reads_end i }; puts = record { items = range_kept ps puts h.puts_from h.puts_to l.puts_rise l.puts_end i } }
 
-  prints_kept : (hs : List Span) → All (LiesIn (length rs) (length ps)) hs → prints_of (rs ++ more) (ps ++ puts) hs ≡ prints_of rs ps hs
+  prints_kept : (hs : List Span) → All (SpanLiesIn (length rs) (length ps)) hs → prints_of (rs ++ more) (ps ++ puts) hs ≡ prints_of rs ps hs
   prints_kept [] a = refl
   prints_kept (h ∷ hs) a = λ i. print_kept h (a 0 h (omega arith)) i ∷ prints_kept hs (λ k d l. a (suc k) d (omega (arith, l))) i
 
-  pub added : (hs : List Span) (h : Span) → All (LiesIn (length rs) (length ps)) hs
+  pub added : (hs : List Span) (h : Span) → All (SpanLiesIn (length rs) (length ps)) hs
       → length rs ≡ h.reads_from → h.reads_to ≡ h.reads_from + length more → length ps ≡ h.puts_from → h.puts_to ≡ h.puts_from + length puts
       → prints_of (rs ++ more) (ps ++ puts) (hs ++ h ∷ []) ≡ prints_of rs ps hs ++ print more puts ∷ []
   added hs h a p q r s =

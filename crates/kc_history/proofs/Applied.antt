@@ -3,7 +3,7 @@ use Rattle.std.proofs.Common.{◌≡◌, ℕ, ◌+◌, ◌<◌, ◌≤◌, List,
 use Rattle.std.specs.Prelude.{IsSome}
 use Rattle.std.specs.Option.{option_map}
 use Rattle.std.proofs.lemmas.List.{drop_more, drop_all}
-use Rattle.kc_history.specs.Order.{Footprints, Legal, more}
+use Rattle.kc_history.specs.Order.{Footprints, Legal, one_record_more}
 use Rattle.kc_history.specs.Records.{record_at, footprint_at}
 use Rattle.kc_history.specs.declared.record.Place.{Place}
 use Rattle.kc_history.specs.declared.record.Record.{Record}
@@ -45,7 +45,7 @@ comes_next a order old now i d lt c =
       at = next.1;
       finds = finds;
       on = record {
-        stand = more p.thread c.stand;
+        stand = one_record_more p.thread c.stand;
         last = c.last;
         left = rest;
         whole = λ e h. c.whole e (subst (λ (ps : List Place). Legal a c.stand now ps e) (sym here) (f, next, finds, h));

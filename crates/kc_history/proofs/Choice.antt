@@ -1,7 +1,7 @@
 -- The canonical order leaves no choice.
 use Rattle.std.proofs.Common.{◌≡◌, ℕ, zero, suc, ◌+◌, ◌<◌, ◌≤◌, List, [], ◌∷◌, Some, refl, sym, ap, ap₂, ◌∙◌, subst, subst₂, arith}
 use Rattle.kc_history.specs.Ends.{IsFirstLeft, IsStuck}
-use Rattle.kc_history.specs.Order.{Footprints, more, raised, IsNext, NoneLeft, NoneReady, Ready, Chooses, IsCanonical}
+use Rattle.kc_history.specs.Order.{Footprints, one_record_more, raised, IsNext, NoneLeft, NoneReady, Ready, Chooses, IsCanonical}
 use Rattle.kc_history.specs.declared.arranging.Cycle.{Cycle}
 use Rattle.kc_history.specs.declared.record.Place.{Place}
 use Rattle.kc_model.specs.declared.footprint.Footprint.{Footprint}
@@ -30,8 +30,8 @@ one_order a (p ∷ ps) (q ∷ qs) n v m w m' w' (f, x, c) h (g, y, d) i =
     let t : q.thread ≡ p.thread = (let k = x.lowest q g y.ready in let l = y.lowest p f x.ready in omega arith) in
     let e : q ≡ p = one_next a n p q f g x.ready.next y.ready.next t in
     let fg : g ≡ f = some_is g f (sym y.ready.next.1 ∙ ap (λ (r : Place). a r.thread r.index) e ∙ x.ready.next.1) in
-    let d' : Chooses a (more p.thread n) (raised f v) qs m' w' = subst₂ (λ (r : Place) (f : Footprint). Chooses a (more r.thread n) (raised f v) qs m' w') e fg d in
-    let on = one_order a ps qs (more p.thread n) (raised f v) m w m' w' c h d' i in
+    let d' : Chooses a (one_record_more p.thread n) (raised f v) qs m' w' = subst₂ (λ (r : Place) (f : Footprint). Chooses a (one_record_more r.thread n) (raised f v) qs m' w') e fg d in
+    let on = one_order a ps qs (one_record_more p.thread n) (raised f v) m w m' w' c h d' i in
     (ap₂ (λ (p : Place) ps. p ∷ ps) (sym e) on.0, on.1)
 
 -- a record is left where the choice is stuck

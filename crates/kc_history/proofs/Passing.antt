@@ -6,8 +6,8 @@ use Rattle.kc_history.proofs.Exchange.{more_least}
 use Rattle.kc_history.proofs.Ready.{same_or, more_same, still}
 use Rattle.kc_history.proofs.Tallies.{other_loc, other_version}
 use Rattle.kc_history.proofs.Totals.{unplaced_step, zero_each, each_zero, no_readers, reader_in, one_reader}
-use Rattle.kc_history.specs.Counts.{foot_at, sum_unplaced, readers, readers_of, slot, WellMade, AllWellMade, Passes, Counted}
-use Rattle.kc_history.specs.Order.{more, IsNext, Ready}
+use Rattle.kc_history.specs.Counts.{foot_at, sum_unplaced, readers, readers_of, slot, WellMade, AllWellMade, PassesCounts, Counted}
+use Rattle.kc_history.specs.Order.{one_record_more, IsNext, Ready}
 use Rattle.kc_history.specs.declared.record.Place.{Place}
 use Rattle.kc_model.specs.Footprint.{Reads, Puts, PutsWhatItReads}
 use Rattle.kc_model.specs.declared.footprint.Footprint.{Footprint}
@@ -50,17 +50,17 @@ module _ (vs : List RecordsValue) (next versions starts left : List ℕ) (well :
       }
 
   -- the count at a put is one more than that of the records behind
-  count_at : (t : ℕ) (f : Footprint) → a t (n t) ≡ Some f → (q : Put) → ReadsPut f q → slice_index left (slot starts q.loc.0 (v q.loc.0)) ≡ 1 + sum_unplaced (readers_of q.loc.0 q.version) vs (more t n)
+  count_at : (t : ℕ) (f : Footprint) → a t (n t) ≡ Some f → (q : Put) → ReadsPut f q → slice_index left (slot starts q.loc.0 (v q.loc.0)) ≡ 1 + sum_unplaced (readers_of q.loc.0 q.version) vs (one_record_more t n)
   count_at t f at q h =
       let w = counted.widths q.loc.0 h.below in
       let e = counted.counts q.loc.0 (v q.loc.0) h.below (omega arith) in
       let s = unplaced_step (readers_of q.loc.0 (v q.loc.0)) vs n t f at in
       let one = one_reader q.loc.0 (v q.loc.0) f.reads.items (well t (n t) f at).reads_rise in
       let some = reader_in q.loc.0 (v q.loc.0) f.reads.items h.read h.stands h.there (h.same ∙ sym h.now) in
-      let x : sum_unplaced (readers_of q.loc.0 (v q.loc.0)) vs (more t n) ≡ sum_unplaced (readers_of q.loc.0 q.version) vs (more t n) = ap (λ k. sum_unplaced (readers_of q.loc.0 k) vs (more t n)) h.now in
+      let x : sum_unplaced (readers_of q.loc.0 (v q.loc.0)) vs (one_record_more t n) ≡ sum_unplaced (readers_of q.loc.0 q.version) vs (one_record_more t n) = ap (λ k. sum_unplaced (readers_of q.loc.0 k) vs (one_record_more t n)) h.now in
       omega arith
 
-  pub passes_ready : (p : Place) (f : Footprint) → p.index ≡ n p.thread → Passes vs next versions starts left p.thread f → Ready a n v p f
+  pub passes_ready : (p : Place) (f : Footprint) → p.index ≡ n p.thread → PassesCounts vs next versions starts left p.thread f → Ready a n v p f
   passes_ready p f i h =
       let finds : (r : Seen) → Reads f r → v r.loc.0 ≡ r.version = (λ r d. All-contains (λ (r : Seen). v r.loc.0 ≡ r.version) f.reads.items r h.finds d) in
       let next : IsNext a n p f = (i, ap (a p.thread) i ∙ h.is) in
@@ -74,17 +74,17 @@ module _ (vs : List RecordsValue) (next versions starts left : List ℕ) (well :
             elim (still a puts_read n p f next u k below) [
               | inl (x, y) ↦ other x y
               | inr x ↦
-                  let z : readers q.loc.0 q.version g.reads.items ≡ 0 = zero_each (readers_of q.loc.0 q.version) vs (more p.thread n) (omega arith) u k g at x in
+                  let z : readers q.loc.0 q.version g.reads.items ≡ 0 = zero_each (readers_of q.loc.0 q.version) vs (one_record_more p.thread n) (omega arith) u k g at x in
                   let b = reader_in q.loc.0 q.version g.reads.items r hr l same in
                   omega arith
             ];
       }
 
   -- the records behind are the others
-  others : (p : Place) (f : Footprint) → IsNext a n p f → (u k : ℕ) → more p.thread n u ≤ k → (n u ≤ k) × (u ≡ p.thread → k ≢ p.index)
+  others : (p : Place) (f : Footprint) → IsNext a n p f → (u k : ℕ) → one_record_more p.thread n u ≤ k → (n u ≤ k) × (u ≡ p.thread → k ≢ p.index)
   others p f next u k h = ((let x = more_least p.thread n u in omega arith), λ e i. (let x = more_same p.thread n u e in let y : n u ≡ n p.thread = ap n e in let z = next.0 in omega arith))
 
-  pub ready_passes : (p : Place) (f : Footprint) → Ready a n v p f → Passes vs next versions starts left p.thread f
+  pub ready_passes : (p : Place) (f : Footprint) → Ready a n v p f → PassesCounts vs next versions starts left p.thread f
   ready_passes p f h =
       let is : a p.thread (n p.thread) ≡ Some f = ap (a p.thread) (sym h.next.0) ∙ h.next.1 in
       record {
@@ -95,7 +95,7 @@ module _ (vs : List RecordsValue) (next versions starts left : List ℕ) (well :
             let hq = Contains-get_or f.puts.items k d lt in
             let put = reads_put p.thread f is h.reads q hq in
             let e = count_at p.thread f is q put in
-            let z : sum_unplaced (readers_of q.loc.0 q.version) vs (more p.thread n) ≡ 0 = each_zero (readers_of q.loc.0 q.version) vs (more p.thread n) (λ u j g at below.
+            let z : sum_unplaced (readers_of q.loc.0 q.version) vs (one_record_more p.thread n) ≡ 0 = each_zero (readers_of q.loc.0 q.version) vs (one_record_more p.thread n) (λ u j g at below.
             let o = others p f h.next u j below in
             no_readers q.loc.0 q.version g.reads.items (λ i d lt.
             let r = slice_index_or g.reads.items i d in

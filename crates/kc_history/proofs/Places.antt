@@ -4,11 +4,11 @@ use Rattle.std.specs.Prelude.{IsSome, codes, slice_get}
 use Rattle.std.specs.Option.{option_map}
 use Rattle.kc_history.proofs.Choice.{some_is}
 use Rattle.kc_history.proofs.Kept.{print_in}
-use Rattle.kc_history.specs.Text.{bare, label_text, order_line}
+use Rattle.kc_history.specs.Text.{bare_record, label_text, order_line}
 use Rattle.kc_history.specs.declared.record.Head.{Head}
 use Rattle.kc_history.specs.declared.record.Record.{Record}
 use Rattle.kc_history.specs.RecordsValue.{RecordsValue}
-use Rattle.kc_history.specs.Records.{footprint_at, head_in, lists_of, print_of, record_at}
+use Rattle.kc_history.specs.Records.{footprint_at, head_in, lists_of, record_print, record_at}
 
 -- where the place has a record, the thread's list is this one's
 thread_list : (vs : List RecordsValue) (t k : ℕ) (v : RecordsValue) → v ≡ get_or vs t v → IsSome (record_at (lists_of vs) t k) → slice_index_or (lists_of vs) t [] ≡ v.items
@@ -27,13 +27,13 @@ pub index_within : (vs : List RecordsValue) (t k : ℕ) (v : RecordsValue) → v
 index_within vs t k v e some = within v.items k (subst (λ (xs : List Record). IsSome (slice_get xs k)) (thread_list vs t k v e some) some)
 
 -- the footprint at the place is that of its lines
-pub footprint_read : (vs : List RecordsValue) (t k : ℕ) (v : RecordsValue) → v ≡ get_or vs t v → IsSome (record_at (lists_of vs) t k) → footprint_at (lists_of vs) t k ≡ Some (print_of v.items k)
+pub footprint_read : (vs : List RecordsValue) (t k : ℕ) (v : RecordsValue) → v ≡ get_or vs t v → IsSome (record_at (lists_of vs) t k) → footprint_at (lists_of vs) t k ≡ Some (record_print v.items k)
 footprint_read vs t k v e some = ap (λ (xs : List Record). option_map (λ (r : Record). r.footprint) (slice_get xs k)) (thread_list vs t k v e some) ∙ print_in v.items k (index_within vs t k v e some)
 
 -- the line of the record at the place is that of its head
-pub head_line : (vs : List RecordsValue) (t k : ℕ) (v : RecordsValue) (h : Head) → v ≡ get_or vs t v → IsSome (record_at (lists_of vs) t k) → option_map head_in (slice_get v.items k) ≡ Some h → label_text (bare h) ++ codes "\n" ≡ order_line (record_at (lists_of vs) t k)
+pub head_line : (vs : List RecordsValue) (t k : ℕ) (v : RecordsValue) (h : Head) → v ≡ get_or vs t v → IsSome (record_at (lists_of vs) t k) → option_map head_in (slice_get v.items k) ≡ Some h → label_text (bare_record h) ++ codes "\n" ≡ order_line (record_at (lists_of vs) t k)
 head_line vs t k v h e some is = sym (ap (λ (xs : List Record). order_line (slice_get xs k)) (thread_list vs t k v e some) ∙ by (slice_get v.items k) is)
   where
-    by : (o : Option Record) → option_map head_in o ≡ Some h → order_line o ≡ label_text (bare h) ++ codes "\n"
+    by : (o : Option Record) → option_map head_in o ≡ Some h → order_line o ≡ label_text (bare_record h) ++ codes "\n"
     by None is = absurd (cc)
-    by (Some r) is = ap (λ (g : Head). label_text (bare g) ++ codes "\n") (some_is (head_in r) h is)
+    by (Some r) is = ap (λ (g : Head). label_text (bare_record g) ++ codes "\n") (some_is (head_in r) h is)

@@ -2,7 +2,7 @@
 use Rattle.std.proofs.Common.{◌≡◌, ◌≢◌, ◌⊎◌, inl, inr, ℕ, zero, suc, ◌+◌, ◌<◌, ◌≤◌, List, [], ◌∷◌, cond, Option, Some, None, Contains, refl, sym, ap, ap₂, ◌∙◌, subst, length, slice_index_or, arith, eq-eqb, ne_eqb}
 use Rattle.std.proofs.Math.Path.{fun_ext}
 use Rattle.kc_history.proofs.Choice.{some_is}
-use Rattle.kc_history.specs.Order.{Footprints, more, IsNext, Legal, version_after, raised, Ready}
+use Rattle.kc_history.specs.Order.{Footprints, one_record_more, IsNext, Legal, version_after, raised, Ready}
 use Rattle.kc_history.specs.declared.record.Place.{Place}
 use Rattle.kc_model.specs.Footprint.{Reads, Puts, PutsWhatItReads, put_at}
 use Rattle.kc_model.specs.Store.{Store, cell_after, after, Finds}
@@ -23,11 +23,11 @@ same_or (suc a) zero = inr (λ h. omega arith)
 same_or (suc a) (suc b) = elim (same_or a b) [ inl e ↦ inl (ap suc e) | inr n ↦ inr (λ h. n (omega arith)) ]
 
 -- of the thread one more record stands
-pub more_same : (t : ℕ) (n : ℕ → ℕ) (u : ℕ) → u ≡ t → more t n u ≡ n u + 1
+pub more_same : (t : ℕ) (n : ℕ → ℕ) (u : ℕ) → u ≡ t → one_record_more t n u ≡ n u + 1
 more_same t n u e = ap (λ b. cond b (n u + 1) (n u)) (eq-eqb u t e)
 
 -- of another thread as many stand as before
-pub more_other : (t : ℕ) (n : ℕ → ℕ) (u : ℕ) → u ≢ t → more t n u ≡ n u
+pub more_other : (t : ℕ) (n : ℕ → ℕ) (u : ℕ) → u ≢ t → one_record_more t n u ≡ n u
 more_other t n u e = ap (λ b. cond b (n u + 1) (n u)) (ne_eqb u t e)
 
 -- a put of the location in the list
@@ -118,7 +118,7 @@ found f s r l h d e = ap (versions s) (sym e) ∙ ap (λ (c : Cell). c.version) 
 
 module _ (a : Footprints) (well : (u k : ℕ) (f : Footprint) → a u k ≡ Some f → PutsWhatItReads f) where
   -- a record that doesn't stand yet is this one, or doesn't stand after it
-  pub still : (n : ℕ → ℕ) (p : Place) (f : Footprint) → IsNext a n p f → (u k : ℕ) → n u ≤ k → ((u ≡ p.thread) × (k ≡ p.index)) ⊎ (more p.thread n u ≤ k)
+  pub still : (n : ℕ → ℕ) (p : Place) (f : Footprint) → IsNext a n p f → (u k : ℕ) → n u ≤ k → ((u ≡ p.thread) × (k ≡ p.index)) ⊎ (one_record_more p.thread n u ≤ k)
   still n p f next u k h = elim (same_or u p.thread) [
     | inl e ↦ (elim (same_or k p.index) [
       | inl i ↦ inl (e, i)
@@ -133,7 +133,7 @@ module _ (a : Footprints) (well : (u k : ℕ) (f : Footprint) → a u k ≡ Some
   later e (p ∷ ps) n s (f, next, finds, rest) u k g at below r d = elim (still n p f next u k below) [
     | inl (i, j) ↦ let same : f ≡ g = some_is f g (sym next.1 ∙ ap₂ a (sym i) (sym j) ∙ at) in
         let v = found f s r r.loc.0 finds (let P : Footprint → Type 0 = λ f. Reads f r in subst P (sym same) d) refl in omega arith
-    | inr i ↦ let v = later e ps (more p.thread n) (after f s) rest u k g at i r d in let w = rises f s r.loc.0 in omega arith
+    | inr i ↦ let v = later e ps (one_record_more p.thread n) (after f s) rest u k g at i r d in let w = rises f s r.loc.0 in omega arith
   ]
 
   -- a put ends the version that stands
@@ -148,7 +148,7 @@ module _ (a : Footprints) (well : (u k : ℕ) (f : Footprint) → a u k ≡ Some
     alone = λ u k g at below other q h r d l same. elim (still n p f next u k below) [
       | inl (i, j) ↦ other i j
       | inr i ↦
-          let v = later e ps (more p.thread n) (after f s) rest u k g at i r d in
+          let v = later e ps (one_record_more p.thread n) (after f s) rest u k g at i r d in
           let w = after_put f s r.loc.0 (puts_there f q r.loc.0 h (sym l)) in
           let x = ends_what_stands f (versions s) (well p.thread p.index f next.1) (λ r d. found f s r r.loc.0 finds d refl) q h in
           let y : versions s r.loc.0 ≡ versions s q.loc.0 = ap (versions s) l in

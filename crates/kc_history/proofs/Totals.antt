@@ -6,7 +6,7 @@ use Rattle.std.proofs.lemmas.List.Sums.{sum_by-cons}
 use Rattle.std.specs.Prelude.{map}
 use Rattle.std.specs.Option.{option_map}
 use Rattle.kc_history.specs.Ends.{AreWellMade}
-use Rattle.kc_history.specs.Records.{footprint_at, lists_of, print_of}
+use Rattle.kc_history.specs.Records.{footprint_at, lists_of, record_print}
 use Rattle.kc_model.specs.Rising.{IsRising, IsRisingAbove}
 use Rattle.kc_model.specs.declared.plain_store.TheConstants.{MOST_LOCATIONS}
 use Rattle.kc_history.specs.RecordsValue.{RecordsValue}
@@ -15,7 +15,7 @@ use Rattle.kc_history.proofs.Kept.{print_at}
 use Rattle.kc_history.proofs.Ready.{no_some, same_or, more_same, more_other}
 use Rattle.kc_history.proofs.Tallies.{one_read, other_loc}
 use Rattle.kc_history.specs.Counts.{AllWellMade, list_at, footprints, foot_at, sum_unplaced, reads_at, readers, putters, puts_at}
-use Rattle.kc_history.specs.Order.{Footprints, more, version_after}
+use Rattle.kc_history.specs.Order.{Footprints, one_record_more, version_after}
 use Rattle.kc_history.specs.declared.record.Record.{Record}
 use Rattle.kc_model.specs.Footprint.{put_at}
 use Rattle.kc_model.specs.declared.footprint.Footprint.{Footprint}
@@ -30,30 +30,30 @@ rest_suc w (x ∷ xs) (suc k) f e = rest_suc w xs k f e
 rest_step : (w : Footprint → ℕ) (fs : List Footprint) (k : ℕ) (f : Footprint) → slice_get fs k ≡ Some f → sum_by w (drop k fs) ≡ w f + sum_by w (drop (k + 1) fs)
 rest_step w fs k f e = rest_suc w fs k f e ∙ ap (λ j. w f + sum_by w (drop j fs)) (sym (add-one k))
 
-more_zero : (t : ℕ) (n : ℕ → ℕ) → more (suc t) n zero ≡ n zero
+more_zero : (t : ℕ) (n : ℕ → ℕ) → one_record_more (suc t) n zero ≡ n zero
 more_zero t n = more_other (suc t) n zero (λ e. omega arith)
 
-more_zero_behind : (n : ℕ → ℕ) (u : ℕ) → more zero n (suc u) ≡ n (suc u)
+more_zero_behind : (n : ℕ → ℕ) (u : ℕ) → one_record_more zero n (suc u) ≡ n (suc u)
 more_zero_behind n u = more_other zero n (suc u) (λ e. omega arith)
 
-more_behind : (t : ℕ) (n : ℕ → ℕ) (u : ℕ) → more (suc t) n (suc u) ≡ more t (λ u. n (suc u)) u
+more_behind : (t : ℕ) (n : ℕ → ℕ) (u : ℕ) → one_record_more (suc t) n (suc u) ≡ one_record_more t (λ u. n (suc u)) u
 more_behind t n u = elim (same_or u t) [
   | inl e ↦ more_same (suc t) n (suc u) (ap suc e) ∙ sym (more_same t (λ u. n (suc u)) u e)
   | inr e ↦ more_other (suc t) n (suc u) (λ h. e (omega arith)) ∙ sym (more_other t (λ u. n (suc u)) u e)
 ]
 
 -- one more record stands
-pub unplaced_step : (w : Footprint → ℕ) (vs : List RecordsValue) (n : ℕ → ℕ) (t : ℕ) (f : Footprint) → foot_at vs t (n t) ≡ Some f → sum_unplaced w vs n ≡ w f + sum_unplaced w vs (more t n)
+pub unplaced_step : (w : Footprint → ℕ) (vs : List RecordsValue) (n : ℕ → ℕ) (t : ℕ) (f : Footprint) → foot_at vs t (n t) ≡ Some f → sum_unplaced w vs n ≡ w f + sum_unplaced w vs (one_record_more t n)
 unplaced_step w [] n t f e = absurd (no_some f e)
 unplaced_step w (v ∷ vs) n zero f e =
     let a = rest_step w (footprints v.items) (n zero) f e in
-    let b : sum_by w (drop (more zero n zero) (footprints v.items)) ≡ sum_by w (drop (n zero + 1) (footprints v.items)) = ap (λ k. sum_by w (drop k (footprints v.items))) (more_same zero n zero refl) in
-    let d : sum_unplaced w vs (λ u. more zero n (suc u)) ≡ sum_unplaced w vs (λ u. n (suc u)) = ap (sum_unplaced w vs) (fun_ext (more_zero_behind n)) in
+    let b : sum_by w (drop (one_record_more zero n zero) (footprints v.items)) ≡ sum_by w (drop (n zero + 1) (footprints v.items)) = ap (λ k. sum_by w (drop k (footprints v.items))) (more_same zero n zero refl) in
+    let d : sum_unplaced w vs (λ u. one_record_more zero n (suc u)) ≡ sum_unplaced w vs (λ u. n (suc u)) = ap (sum_unplaced w vs) (fun_ext (more_zero_behind n)) in
     omega arith
 unplaced_step w (v ∷ vs) n (suc t) f e =
     let a = unplaced_step w vs (λ u. n (suc u)) t f e in
-    let b : sum_by w (drop (more (suc t) n zero) (footprints v.items)) ≡ sum_by w (drop (n zero) (footprints v.items)) = ap (λ k. sum_by w (drop k (footprints v.items))) (more_zero t n) in
-    let d : sum_unplaced w vs (λ u. more (suc t) n (suc u)) ≡ sum_unplaced w vs (more t (λ u. n (suc u))) = ap (sum_unplaced w vs) (fun_ext (more_behind t n)) in
+    let b : sum_by w (drop (one_record_more (suc t) n zero) (footprints v.items)) ≡ sum_by w (drop (n zero) (footprints v.items)) = ap (λ k. sum_by w (drop k (footprints v.items))) (more_zero t n) in
+    let d : sum_unplaced w vs (λ u. one_record_more (suc t) n (suc u)) ≡ sum_unplaced w vs (one_record_more t (λ u. n (suc u))) = ap (sum_unplaced w vs) (fun_ext (more_behind t n)) in
     omega arith
 
 -- where none stands, over all
@@ -189,7 +189,7 @@ pub record_is : (vs : List RecordsValue) (t : ℕ) (v : RecordsValue) (k : ℕ) 
 record_is vs t v k r lt e kt g = ap (λ xs. slice_get xs k) (list_is vs t v lt e) ∙ at_index v.items k r kt g
 
 -- the same, by its lines
-pub foot_is : (vs : List RecordsValue) (t : ℕ) (v : RecordsValue) (k : ℕ) → t < length vs → v ≡ slice_index_or vs t v → k < length v.items → foot_at vs t k ≡ Some (print_of v.items k)
+pub foot_is : (vs : List RecordsValue) (t : ℕ) (v : RecordsValue) (k : ℕ) → t < length vs → v ≡ slice_index_or vs t v → k < length v.items → foot_at vs t k ≡ Some (record_print v.items k)
 foot_is vs t v k lt e kt = ap (λ xs. slice_get xs k) (list_is vs t v lt e) ∙ print_at v.items k kt
 
 -- past the end of the list is none

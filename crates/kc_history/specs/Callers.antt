@@ -19,14 +19,14 @@ of_caller k (e ∷ es) = if e.caller == k then e ∷ of_caller k es else of_call
 abbrev pub IsBelowCallers : ℕ → List Entry → Type 0
 IsBelowCallers callers history = All (λ (e : Entry). e.caller < callers) history
 
-abbrev pub entry_of : ℕ → ℕ → Footprint → Entry
-entry_of caller number f = record { caller = caller; number = number; footprint = f }
+abbrev pub record_entry : ℕ → ℕ → Footprint → Entry
+record_entry caller number f = record { caller = caller; number = number; footprint = f }
 
 -- the caller's entries of these records, numbered from here on
-abbrev pub entries_of : ℕ → ℕ → List Record → List Entry
-entries_of caller number [] = []
-entries_of caller number (r ∷ rs) = entry_of caller number r.footprint ∷ entries_of caller (number + 1) rs
+abbrev pub record_entries : ℕ → ℕ → List Record → List Entry
+record_entries caller number [] = []
+record_entries caller number (r ∷ rs) = record_entry caller number r.footprint ∷ record_entries caller (number + 1) rs
 
 -- The history has just these records: each caller's entries are those of the list at its place, in order and numbered from 1, and nobody else has one.
 abbrev pub HasJust : List (List Record) → List Entry → Type 0
-HasJust records history = (caller : ℕ) → of_caller caller history ≡ entries_of caller 1 (slice_index_or records caller [])
+HasJust records history = (caller : ℕ) → of_caller caller history ≡ record_entries caller 1 (slice_index_or records caller [])

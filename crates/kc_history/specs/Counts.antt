@@ -75,7 +75,7 @@ abbrev pub AllWellMade : ℕ → List RecordsValue → Type 0
 AllWellMade n vs = (u k : ℕ) (f : Footprint) → foot_at vs u k ≡ Some f → WellMade n f
 
 -- the next record of the thread passes the test by counts
-pub record Passes (vs : List RecordsValue) (next versions starts left : List ℕ) (t : ℕ) (f : Footprint) : Type 0 where
+pub record PassesCounts (vs : List RecordsValue) (next versions starts left : List ℕ) (t : ℕ) (f : Footprint) : Type 0 where
   pub is : foot_at vs t (slice_index next t) ≡ Some f
   pub finds : All (λ (r : Seen). slice_index versions r.loc.0 ≡ r.version) f.reads.items
   pub alone : All (λ (p : Put). slice_index left (slot starts p.loc.0 (slice_index versions p.loc.0)) ≡ 1) f.puts.items

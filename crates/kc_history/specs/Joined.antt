@@ -15,7 +15,7 @@ abbrev pub blank_head : Head
 blank_head = record { thread = 0; mark = mark.End; answer = answer.Reply reply.Unit }
 
 -- a record for each footprint, with the head at its place, and behind the heads with the blank one
-abbrev pub joined : List Head → List Footprint → List Record
-joined hs [] = []
-joined [] (f ∷ fs) = record_of blank_head f ∷ joined [] fs
-joined (h ∷ hs) (f ∷ fs) = record_of h f ∷ joined hs fs
+abbrev pub joined_records : List Head → List Footprint → List Record
+joined_records hs [] = []
+joined_records [] (f ∷ fs) = record_of blank_head f ∷ joined_records [] fs
+joined_records (h ∷ hs) (f ∷ fs) = record_of h f ∷ joined_records hs fs

@@ -1,7 +1,7 @@
 -- Lists of records that differ by exchanges alone; lists of records that come from entries.
 use Rattle.std.specs.Prelude.{◌≡◌, ◌≢◌, ℕ, List, [], ◌∷◌, map, Some}
 use Rattle.kc_history.specs.Callers.{of_caller}
-use Rattle.kc_history.specs.Order.{Footprints, more}
+use Rattle.kc_history.specs.Order.{Footprints, one_record_more}
 use Rattle.kc_history.specs.declared.record.Place.{Place}
 use Rattle.kc_model.specs.Footprint.{Reads, Puts}
 use Rattle.kc_model.specs.declared.footprint.Entry.{Entry}
@@ -28,20 +28,20 @@ pub data Exchanged (a : Footprints) : List Place → List Place → Type 0 where
   here : {p q : Place} {ps : List Place} → Apart a p q → Exchanged a (q ∷ p ∷ ps) (p ∷ q ∷ ps)
   there : {p : Place} {ps qs : List Place} → Exchanged a ps qs → Exchanged a (p ∷ ps) (p ∷ qs)
 
-pub data Exchanges (a : Footprints) : List Place → List Place → Type 0 where
-  none : {ps : List Place} → Exchanges a ps ps
-  one : {ps qs rs : List Place} → Exchanged a ps qs → Exchanges a qs rs → Exchanges a ps rs
+pub data PlacesExchanged (a : Footprints) : List Place → List Place → Type 0 where
+  none : {ps : List Place} → PlacesExchanged a ps ps
+  one : {ps qs rs : List Place} → Exchanged a ps qs → PlacesExchanged a qs rs → PlacesExchanged a ps rs
 
 -- ---- entries, where callers are the threads
 
 -- a caller's footprints, in order
-abbrev pub by : ℕ → List Entry → List Footprint
-by u h = map (λ (x : Entry). x.footprint) (of_caller u h)
+abbrev pub footprints_by : ℕ → List Entry → List Footprint
+footprints_by u h = map (λ (x : Entry). x.footprint) (of_caller u h)
 
 -- where the entries stand in lists by thread, when so many of each stand before
 abbrev pub placed_from : (ℕ → ℕ) → List Entry → List Place
 placed_from n [] = []
-placed_from n (x ∷ xs) = record { thread = x.caller; index = n x.caller } ∷ placed_from (more x.caller n) xs
+placed_from n (x ∷ xs) = record { thread = x.caller; index = n x.caller } ∷ placed_from (one_record_more x.caller n) xs
 
 -- the second list is the first without some entries that only read
 pub data LeavesLooks : List Entry → List Entry → Type 0 where

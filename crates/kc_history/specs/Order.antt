@@ -12,8 +12,8 @@ abbrev pub Footprints : Type 0
 Footprints = ℕ → ℕ → Option Footprint
 
 -- one more record of the thread stands
-abbrev pub more : ℕ → (ℕ → ℕ) → ℕ → ℕ
-more t n u = cond (u == t) (n u + 1) (n u)
+abbrev pub one_record_more : ℕ → (ℕ → ℕ) → ℕ → ℕ
+one_record_more t n u = cond (u == t) (n u + 1) (n u)
 
 -- the record at the place is the next of its thread
 abbrev pub IsNext : Footprints → (ℕ → ℕ) → Place → Footprint → Type 0
@@ -25,7 +25,7 @@ NoneLeft a n = (u k : ℕ) (f : Footprint) → a u k ≡ Some f → k < n u
 -- the places take in all records that don't stand yet, in each thread's order, and make a legal list from `s` to `e`
 abbrev pub Legal : Footprints → (ℕ → ℕ) → Store → List Place → Store → Type 0
 Legal a n s [] e = NoneLeft a n × (e ≡ s)
-Legal a n s (p ∷ ps) e = (f : Footprint) × IsNext a n p f × Finds f s × Legal a (more p.thread n) (after f s) ps e
+Legal a n s (p ∷ ps) e = (f : Footprint) × IsNext a n p f × Finds f s × Legal a (one_record_more p.thread n) (after f s) ps e
 
 -- ---- the canonical order: at each place stands the ready record of the lowest thread
 
@@ -55,7 +55,7 @@ pub record Chosen (a : Footprints) (n v : ℕ → ℕ) (p : Place) (f : Footprin
 -- the places are chosen one by one, and lead from the numbers `n` and versions `v` to `m` and `w`
 abbrev pub Chooses : Footprints → (ℕ → ℕ) → (ℕ → ℕ) → List Place → (ℕ → ℕ) → (ℕ → ℕ) → Type 0
 Chooses a n v [] m w = (m ≡ n) × (w ≡ v)
-Chooses a n v (p ∷ ps) m w = (f : Footprint) × Chosen a n v p f × Chooses a (more p.thread n) (raised f v) ps m w
+Chooses a n v (p ∷ ps) m w = (f : Footprint) × Chosen a n v p f × Chooses a (one_record_more p.thread n) (raised f v) ps m w
 
 -- no record that doesn't stand yet is ready
 abbrev pub NoneReady : Footprints → (ℕ → ℕ) → (ℕ → ℕ) → Type 0

@@ -23,8 +23,8 @@ abbrev pub puts_of : List Record → ℕ → List Put
 puts_of rs i = puts_in (option_map (λ r. r.footprint) (slice_get rs i))
 
 -- its footprint
-abbrev pub print_of : List Record → ℕ → Footprint
-print_of rs i = print (reads_of rs i) (puts_of rs i)
+abbrev pub record_print : List Record → ℕ → Footprint
+record_print rs i = print (reads_of rs i) (puts_of rs i)
 
 -- the lists of threads
 abbrev pub lists_of : List RecordsValue → List (List Record)

@@ -15,7 +15,7 @@ abbrev pub prints_of : List Seen → List Put → List Span → List Footprint
 prints_of rs ps hs = map (span_print rs ps) hs
 
 -- its lines lie within so many reads and puts, and are no more than a transaction may touch
-pub record LiesIn (n m : ℕ) (h : Span) : Type 0 where
+pub record SpanLiesIn (n m : ℕ) (h : Span) : Type 0 where
   pub reads_rise : h.reads_from ≤ h.reads_to
   pub reads_end : h.reads_to ≤ n
   pub puts_rise : h.puts_from ≤ h.puts_to

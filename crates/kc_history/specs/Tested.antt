@@ -10,17 +10,17 @@ use Rattle.kc_model.specs.declared.footprint.Put.{Put}
 use Rattle.kc_model.specs.declared.footprint.Seen.{Seen}
 
 -- the read's version stands
-abbrev pub Finds : List ℕ → Seen → Type 0
-Finds versions r = slice_index versions r.loc.0 ≡ r.version
+abbrev pub FindsVersion : List ℕ → Seen → Type 0
+FindsVersion versions r = slice_index versions r.loc.0 ≡ r.version
 
 -- one record alone still reads the version that the put ends
-abbrev pub IsAlone : List ℕ → List ℕ → List ℕ → Put → Type 0
-IsAlone versions starts left p = slice_index left (slot starts p.loc.0 (slice_index versions p.loc.0)) ≡ 1
+abbrev pub IsReadByOne : List ℕ → List ℕ → List ℕ → Put → Type 0
+IsReadByOne versions starts left p = slice_index left (slot starts p.loc.0 (slice_index versions p.loc.0)) ≡ 1
 
 -- the first reads of a footprint find their versions; puts are tested once all reads are
 pub record IsTested (versions starts left : List ℕ) (k : Tested) (f : Footprint) : Type 0 where
-  pub finds : All (Finds versions) (take k.reads f.reads.items)
-  pub alone : All (IsAlone versions starts left) (take k.puts f.puts.items)
+  pub finds : All (FindsVersion versions) (take k.reads f.reads.items)
+  pub alone : All (IsReadByOne versions starts left) (take k.puts f.puts.items)
   pub behind : 0 < k.puts → length f.reads.items ≤ k.reads
 
 abbrev pub untested : Tested

@@ -57,8 +57,8 @@ abbrev pub label_text : Record → List ℕ
 label_text r = decimal r.thread ++ codes "." ++ mark_text r.mark
 
 -- what a head says, as a record of nothing
-abbrev pub bare : Head → Record
-bare h = record_of h (print [] [])
+abbrev pub bare_record : Head → Record
+bare_record h = record_of h (print [] [])
 
 -- an end has no reply line
 abbrev pub marked_reply : Mark → Record → List ℕ

@@ -11,7 +11,7 @@ ghost use Rattle.kc_history.specs.declared.record.Place.{Place};
 ghost use Rattle.kc_history.specs.declared.record.Record.{Record};
 ghost use Rattle.kc_history.specs.Callers.{HasJust};
 ghost use Rattle.kc_history.specs.Ends.{IsStuck};
-ghost use Rattle.kc_history.specs.Moves.{Exchanges, LeavesLooks, by, placed_from};
+ghost use Rattle.kc_history.specs.Moves.{PlacesExchanged, LeavesLooks, footprints_by, placed_from};
 ghost use Rattle.kc_history.specs.Order.{Footprints, Legal, IsCanonical};
 ghost use Rattle.kc_history.specs.Records.{footprint_at};
 
@@ -32,13 +32,13 @@ pub fn canonical_is_legal()
     ensures { (a : Footprints) (s e : Store) (ls ps : List Place) →
         ((u k : ℕ) (f : Footprint) → a u k ≡ Some f → PutsWhatItReads f) →
         ((l : ℕ) → (s l).version ≡ 0) →
-        Legal a (λ _. 0) s ls e → IsCanonical a ps → Legal a (λ _. 0) s ps e × Exchanges a ls ps }
+        Legal a (λ _. 0) s ls e → IsCanonical a ps → Legal a (λ _. 0) s ps e × PlacesExchanged a ls ps }
 {}
 
 /// A legal history, whose entries of each caller are a thread's records, is a legal list of the records.
 pub fn entries_are_records()
     ensures any { (a : Footprints) (s e : Store) (h : List Entry) →
-        IsLegal s h e → ((u k : ℕ) → a u k ≡ slice_get (by u h) k) → Legal a (λ _. 0) s (placed_from (λ _. 0) h) e }
+        IsLegal s h e → ((u k : ℕ) → a u k ≡ slice_get (footprints_by u h) k) → Legal a (λ _. 0) s (placed_from (λ _. 0) h) e }
     ensures lists { (records : List (List Record)) (s e : Store) (h : List Entry) →
         IsLegal s h e → HasJust records h → Legal (footprint_at records) (λ _. 0) s (placed_from (λ _. 0) h) e }
 {}

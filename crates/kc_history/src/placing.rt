@@ -3,9 +3,9 @@
 ghost use Rattle.std.specs.Prelude.{◌≡◌, ◌↔◌, ℕ, ◌+◌, ◌^◌, ◌<◌, ◌≤◌, All, AllPairs, IsTrue, MatchOption, Some, length, slice_index, slice_index_or, take};
 ghost use Rattle.kc_model.specs.declared.footprint.Footprint.{Footprint as Foot};
 ghost use Rattle.kc_model.specs.Footprint.{put_at};
-ghost use Rattle.kc_history.specs.Order.{version_after, more, raised, Chooses, NoneReady, NoneLeft};
-ghost use Rattle.kc_history.specs.Counts.{AllWellMade, Counted, Forgets, Passes, foot_at, records_in, slot};
-ghost use Rattle.kc_history.specs.Tested.{IsTested, AllTested, Finds, IsAlone, untested};
+ghost use Rattle.kc_history.specs.Order.{version_after, one_record_more, raised, Chooses, NoneReady, NoneLeft};
+ghost use Rattle.kc_history.specs.Counts.{AllWellMade, Counted, Forgets, PassesCounts, foot_at, records_in, slot};
+ghost use Rattle.kc_history.specs.Tested.{IsTested, AllTested, FindsVersion, IsReadByOne, untested};
 ghost use Rattle.kc_history.specs.Ends.{IsFirstLeft};
 ghost use Rattle.kc_history.specs.Kept.{print};
 
@@ -28,9 +28,9 @@ pub(crate) const UNTESTED: Tested = Tested { reads: 0, puts: 0 };
 // Goes on behind the reads that are known to find their versions, to the first that doesn't.
 fn count_found(reads: &[Seen], versions: &[u32], known: usize) -> usize
     requires below { All (λ r. r.loc.0 < length versions.now) reads.now }
-    requires known { All (Finds versions.now) (take known reads.now) }
-    ensures found { All (Finds versions.now) (take result reads.now) }
-    ensures all { (length reads.now ≤ result) ↔ All (Finds versions.now) reads.now }
+    requires known { All (FindsVersion versions.now) (take known reads.now) }
+    ensures found { All (FindsVersion versions.now) (take result reads.now) }
+    ensures all { (length reads.now ≤ result) ↔ All (FindsVersion versions.now) reads.now }
 {
     for i in known..reads.len() {
         if versions[reads[i].loc.0 as usize] != reads[i].version {
@@ -51,9 +51,9 @@ fn count_alone(
     requires versions { All (λ p. p.loc.0 < length versions.now) puts.now }
     requires starts { All (λ p. p.loc.0 < length starts.now) puts.now }
     requires left { All (λ p. slot starts.now p.loc.0 (slice_index versions.now p.loc.0) < length left.now) puts.now }
-    requires known { All (IsAlone versions.now starts.now left.now) (take known puts.now) }
-    ensures alone { All (IsAlone versions.now starts.now left.now) (take result puts.now) }
-    ensures all { (length puts.now ≤ result) ↔ All (IsAlone versions.now starts.now left.now) puts.now }
+    requires known { All (IsReadByOne versions.now starts.now left.now) (take known puts.now) }
+    ensures alone { All (IsReadByOne versions.now starts.now left.now) (take result puts.now) }
+    ensures all { (length puts.now ≤ result) ↔ All (IsReadByOne versions.now starts.now left.now) puts.now }
 {
     for i in known..puts.len() {
         let loc = puts[i].loc.0 as usize;
@@ -78,7 +78,7 @@ fn may_stand(
     requires starts { length starts.now ≡ length versions.now + 1 }
     requires left { (l : ℕ) → l < length versions.now → slot starts.now l (slice_index versions.now l) < length left.now }
     requires tested { IsTested versions.now starts.now left.now tested.old (print reads.now puts.now) }
-    ensures passes { IsTrue result ↔ (All (Finds versions.now) reads.now × All (IsAlone versions.now starts.now left.now) puts.now) }
+    ensures passes { IsTrue result ↔ (All (FindsVersion versions.now) reads.now × All (IsReadByOne versions.now starts.now left.now) puts.now) }
     ensures tested { IsTested versions.now starts.now left.now tested.new (print reads.now puts.now) }
 {
     tested.reads = count_found(reads, versions, tested.reads);
@@ -104,8 +104,8 @@ fn first_ready(
     requires counted { Counted records.now next.now versions.now starts.now left.now }
     requires tested { AllTested records.now next.now versions.now starts.now left.now tested.old }
     ensures ready { MatchOption result
-        ((u : ℕ) (f : Foot) → Passes records.now next.now versions.now starts.now left.now u f → ⊥)
-        (λ t. (t < length records.now) × ((f : Foot) × Passes records.now next.now versions.now starts.now left.now t f) × ((u : ℕ) (f : Foot) → Passes records.now next.now versions.now starts.now left.now u f → t ≤ u)) }
+        ((u : ℕ) (f : Foot) → PassesCounts records.now next.now versions.now starts.now left.now u f → ⊥)
+        (λ t. (t < length records.now) × ((f : Foot) × PassesCounts records.now next.now versions.now starts.now left.now t f) × ((u : ℕ) (f : Foot) → PassesCounts records.now next.now versions.now starts.now left.now u f → t ≤ u)) }
     ensures tested { AllTested records.now next.now versions.now starts.now left.now tested.new }
 {
     for thread in 0..records.len() {
@@ -151,9 +151,9 @@ fn let_stand(
     requires threads { length records.now ≤ length next.old }
     requires made { AllWellMade (length versions.old) records.now }
     requires counted { Counted records.now next.old versions.old starts.now left.old }
-    requires passes { (f : Foot) × Passes records.now next.old versions.old starts.now left.old thread f }
+    requires passes { (f : Foot) × PassesCounts records.now next.old versions.old starts.now left.old thread f }
     requires short { records_in records.now < 2 ^ 32 }
-    ensures next { slice_index next.new ≡ more thread (slice_index next.old) }
+    ensures next { slice_index next.new ≡ one_record_more thread (slice_index next.old) }
     ensures versions { (f : Foot) → foot_at records.now thread (slice_index next.old thread) ≡ Some f → slice_index versions.new ≡ raised f (slice_index versions.old) }
     ensures left { (f : Foot) → foot_at records.now thread (slice_index next.old thread) ≡ Some f → Forgets starts.now left.old left.new f.reads.items }
     ensures counted { Counted records.now next.new versions.new starts.now left.new }

@@ -31,13 +31,13 @@ impl Model for Prints {
     ghost use Rattle.std.specs.Prelude.{◌+◌, ◌*◌, ◌≤◌, All, length, vec_len, vec_capacity};
     ghost use Rattle.kc_model.specs.declared.footprint.TheConstants.{MOST};
     ghost use Rattle.kc_history.specs.PrintsValue.{PrintsValue};
-    ghost use Rattle.kc_history.specs.Spans.{LiesIn, prints_of};
+    ghost use Rattle.kc_history.specs.Spans.{SpanLiesIn, prints_of};
 
     ghost Value = { PrintsValue };
 
     ghost view = { λ k. record { prints = prints_of k.reads.items k.puts.items k.spans.items; spare = k.spare; limit = k.limit } };
 
-    ghost invariant = { λ k. All (LiesIn (length k.reads.items) (length k.puts.items)) k.spans.items × (vec_len k.spans + k.spare ≤ vec_capacity k.spans) × (vec_len k.reads + k.spare * k.limit ≤ vec_capacity k.reads) × (vec_len k.puts + k.spare * k.limit ≤ vec_capacity k.puts) × (k.limit ≤ MOST) };
+    ghost invariant = { λ k. All (SpanLiesIn (length k.reads.items) (length k.puts.items)) k.spans.items × (vec_len k.spans + k.spare ≤ vec_capacity k.spans) × (vec_len k.reads + k.spare * k.limit ≤ vec_capacity k.reads) × (vec_len k.puts + k.spare * k.limit ≤ vec_capacity k.puts) × (k.limit ≤ MOST) };
 }
 
 // Adds the items behind the others, in room that is there.

@@ -4,7 +4,7 @@ ghost use Rattle.std.specs.Prelude.{◌≡◌, ◌-◌, ◌<◌, ◌≤◌, ◌+
 ghost use Rattle.std.specs.Option.{option_map};
 ghost use Rattle.kc_model.specs.declared.footprint.TheConstants.{MOST};
 ghost use Rattle.kc_history.specs.Joined.{blank_head, record_of};
-ghost use Rattle.kc_history.specs.Records.{head_in, print_of, puts_of, reads_of};
+ghost use Rattle.kc_history.specs.Records.{head_in, record_print, puts_of, reads_of};
 
 use crate::prints::Prints;
 use crate::record::{BLANK, Head, Mark};
@@ -25,11 +25,11 @@ pub struct Records {
 impl Model for Records {
     ghost use Rattle.std.specs.Prelude.{◌≡◌, ◌+◌, ◌-◌, ◌≤◌, length, vec_len};
     ghost use Rattle.kc_history.specs.RecordsValue.{RecordsValue};
-    ghost use Rattle.kc_history.specs.Joined.{blank_head, joined};
+    ghost use Rattle.kc_history.specs.Joined.{blank_head, joined_records};
 
     ghost Value = { RecordsValue };
 
-    ghost view = { λ r. record { items = joined r.heads.items r.prints.prints; spare = vec_len r.heads - length r.prints.prints; bare = r.prints.spare - (vec_len r.heads - length r.prints.prints); limit = r.prints.limit } };
+    ghost view = { λ r. record { items = joined_records r.heads.items r.prints.prints; spare = vec_len r.heads - length r.prints.prints; bare = r.prints.spare - (vec_len r.heads - length r.prints.prints); limit = r.prints.limit } };
 
     ghost invariant = { λ r. (r.blank ≡ blank_head) × (vec_len r.heads ≤ length r.prints.prints + r.prints.spare) };
 }
@@ -131,7 +131,7 @@ impl Records {
     /// Makes of a footprint what the record's is.
     pub(crate) fn fill(&self, index: usize, footprint: &mut Footprint)
         requires { index < length self.now.items }
-        ensures { footprint.new ≡ print_of self.now.items index }
+        ensures { footprint.new ≡ record_print self.now.items index }
     {
         footprint.reads.clear();
         footprint.puts.clear();

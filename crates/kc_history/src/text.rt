@@ -2,9 +2,9 @@
 
 ghost use Rattle.std.specs.Prelude.{◌++◌, IsSome, codes, drop};
 ghost use Rattle.std.specs.List.{flat_map};
-ghost use Rattle.kc_model.specs.Pen.{Puts, Prints};
+ghost use Rattle.kc_model.specs.Pen.{PenPuts, Prints};
 ghost use Rattle.kc_history.specs.Records.{lists_of, record_at, NamesRecords};
-ghost use Rattle.kc_history.specs.Text.{bare, item_text, spaced_items, items_text, reply_text, answer_text, mark_text, label_text, reply_line, reply_lines, order_line, order_lines, records_text};
+ghost use Rattle.kc_history.specs.Text.{bare_record, item_text, spaced_items, items_text, reply_text, answer_text, mark_text, label_text, reply_line, reply_lines, order_line, order_lines, records_text};
 
 use crate::record::{Head, Mark, Place};
 use crate::records::Records;
@@ -13,7 +13,7 @@ use kc_model::{Answer, Failed, Item, Items, Pen, Reply, Sink};
 /// Puts the reply lines, thread by thread, and the order.
 pub fn put_text<K: Sink>(pen: &mut Pen<K>, records: &[Records], order: &[Place])
     requires { NamesRecords (lists_of records.now) order.now }
-    ensures { Puts K.written K.faults K.write_gives pen.old pen.new (records_text (lists_of records.now) order.now) }
+    ensures { PenPuts K.written K.faults K.write_gives pen.old pen.new (records_text (lists_of records.now) order.now) }
 {
     put_replies(pen, records);
     pen.put(b"order\n");
@@ -31,7 +31,7 @@ pub fn write_text<K: Sink>(records: &[Records], order: &[Place], sink: &mut K) -
 }
 
 fn put_replies<K: Sink>(pen: &mut Pen<K>, records: &[Records])
-    ensures { Puts K.written K.faults K.write_gives pen.old pen.new (reply_lines (lists_of records.now)) }
+    ensures { PenPuts K.written K.faults K.write_gives pen.old pen.new (reply_lines (lists_of records.now)) }
 {
     for list in records {
         put_thread_replies(pen, list);
@@ -39,7 +39,7 @@ fn put_replies<K: Sink>(pen: &mut Pen<K>, records: &[Records])
 }
 
 fn put_thread_replies<K: Sink>(pen: &mut Pen<K>, list: &Records)
-    ensures { Puts K.written K.faults K.write_gives pen.old pen.new (flat_map reply_line list.now.items) }
+    ensures { PenPuts K.written K.faults K.write_gives pen.old pen.new (flat_map reply_line list.now.items) }
 {
     for i in 0..list.len() {
         put_reply_line(pen, list.head(i));
@@ -47,7 +47,7 @@ fn put_thread_replies<K: Sink>(pen: &mut Pen<K>, list: &Records)
 }
 
 fn put_reply_line<K: Sink>(pen: &mut Pen<K>, head: &Head)
-    ensures { Puts K.written K.faults K.write_gives pen.old pen.new (reply_line (bare head.now)) }
+    ensures { PenPuts K.written K.faults K.write_gives pen.old pen.new (reply_line (bare_record head.now)) }
 {
     match head.mark {
         Mark::Command(_) => put_command_line(pen, head),
@@ -57,7 +57,7 @@ fn put_reply_line<K: Sink>(pen: &mut Pen<K>, head: &Head)
 
 /// Writes the reply line of a command; of an end nothing. After a failed write no further one is made.
 pub fn write_reply_line<K: Sink>(head: &Head, sink: &mut K) -> Result<(), Failed>
-    ensures { Prints K.written K.faults K.write_gives sink.old sink.new result (reply_line (bare head.now)) }
+    ensures { Prints K.written K.faults K.write_gives sink.old sink.new result (reply_line (bare_record head.now)) }
 {
     let mut pen = Pen::new(sink);
     put_reply_line(&mut pen, head);
@@ -65,7 +65,7 @@ pub fn write_reply_line<K: Sink>(head: &Head, sink: &mut K) -> Result<(), Failed
 }
 
 fn put_command_line<K: Sink>(pen: &mut Pen<K>, head: &Head)
-    ensures { Puts K.written K.faults K.write_gives pen.old pen.new (label_text (bare head.now) ++ codes " " ++ answer_text head.now.answer ++ codes "\n") }
+    ensures { PenPuts K.written K.faults K.write_gives pen.old pen.new (label_text (bare_record head.now) ++ codes " " ++ answer_text head.now.answer ++ codes "\n") }
 {
     put_label(pen, head);
     pen.put(b" ");
@@ -74,7 +74,7 @@ fn put_command_line<K: Sink>(pen: &mut Pen<K>, head: &Head)
 }
 
 fn put_label<K: Sink>(pen: &mut Pen<K>, head: &Head)
-    ensures { Puts K.written K.faults K.write_gives pen.old pen.new (label_text (bare head.now)) }
+    ensures { PenPuts K.written K.faults K.write_gives pen.old pen.new (label_text (bare_record head.now)) }
 {
     pen.put_number(head.thread);
     pen.put(b".");
@@ -82,7 +82,7 @@ fn put_label<K: Sink>(pen: &mut Pen<K>, head: &Head)
 }
 
 fn put_mark<K: Sink>(pen: &mut Pen<K>, mark: Mark)
-    ensures { Puts K.written K.faults K.write_gives pen.old pen.new (mark_text mark) }
+    ensures { PenPuts K.written K.faults K.write_gives pen.old pen.new (mark_text mark) }
 {
     match mark {
         Mark::Command(number) => pen.put_number(number),
@@ -91,7 +91,7 @@ fn put_mark<K: Sink>(pen: &mut Pen<K>, mark: Mark)
 }
 
 fn put_answer<K: Sink>(pen: &mut Pen<K>, answer: &Answer)
-    ensures { Puts K.written K.faults K.write_gives pen.old pen.new (answer_text answer.now) }
+    ensures { PenPuts K.written K.faults K.write_gives pen.old pen.new (answer_text answer.now) }
 {
     match answer {
         Answer::Reply(reply) => put_reply(pen, reply),
@@ -100,7 +100,7 @@ fn put_answer<K: Sink>(pen: &mut Pen<K>, answer: &Answer)
 }
 
 fn put_reply<K: Sink>(pen: &mut Pen<K>, reply: &Reply)
-    ensures { Puts K.written K.faults K.write_gives pen.old pen.new (reply_text reply.now) }
+    ensures { PenPuts K.written K.faults K.write_gives pen.old pen.new (reply_text reply.now) }
 {
     match reply {
         Reply::Unit => pen.put(b"ok"),
@@ -116,7 +116,7 @@ fn put_reply<K: Sink>(pen: &mut Pen<K>, reply: &Reply)
 }
 
 fn put_items<K: Sink>(pen: &mut Pen<K>, items: &Items)
-    ensures { Puts K.written K.faults K.write_gives pen.old pen.new (items_text items.now) }
+    ensures { PenPuts K.written K.faults K.write_gives pen.old pen.new (items_text items.now) }
 {
     if items.len() == 0 {
         pen.put(b"-");
@@ -127,7 +127,7 @@ fn put_items<K: Sink>(pen: &mut Pen<K>, items: &Items)
 }
 
 fn put_later_items<K: Sink>(pen: &mut Pen<K>, items: &Items)
-    ensures { Puts K.written K.faults K.write_gives pen.old pen.new (spaced_items (drop 1 items.now)) }
+    ensures { PenPuts K.written K.faults K.write_gives pen.old pen.new (spaced_items (drop 1 items.now)) }
 {
     for i in 1..items.len() {
         pen.put(b" ");
@@ -136,7 +136,7 @@ fn put_later_items<K: Sink>(pen: &mut Pen<K>, items: &Items)
 }
 
 fn put_item<K: Sink>(pen: &mut Pen<K>, item: Item)
-    ensures { Puts K.written K.faults K.write_gives pen.old pen.new (item_text item) }
+    ensures { PenPuts K.written K.faults K.write_gives pen.old pen.new (item_text item) }
 {
     match item {
         Item::Unit => pen.put(b"ok"),
@@ -150,7 +150,7 @@ fn put_item<K: Sink>(pen: &mut Pen<K>, item: Item)
 
 fn put_order<K: Sink>(pen: &mut Pen<K>, records: &[Records], order: &[Place])
     requires { NamesRecords (lists_of records.now) order.now }
-    ensures { Puts K.written K.faults K.write_gives pen.old pen.new (order_lines (lists_of records.now) order.now) }
+    ensures { PenPuts K.written K.faults K.write_gives pen.old pen.new (order_lines (lists_of records.now) order.now) }
 {
     for place in order {
         put_order_line(pen, records, *place);
@@ -159,7 +159,7 @@ fn put_order<K: Sink>(pen: &mut Pen<K>, records: &[Records], order: &[Place])
 
 fn put_order_line<K: Sink>(pen: &mut Pen<K>, records: &[Records], place: Place)
     requires { IsSome (record_at (lists_of records.now) place.thread place.index) }
-    ensures { Puts K.written K.faults K.write_gives pen.old pen.new (order_line (record_at (lists_of records.now) place.thread place.index)) }
+    ensures { PenPuts K.written K.faults K.write_gives pen.old pen.new (order_line (record_at (lists_of records.now) place.thread place.index)) }
 {
     let list = &records[place.thread as usize];
     put_label(pen, list.head(place.index as usize));

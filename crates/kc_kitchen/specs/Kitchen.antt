@@ -28,9 +28,9 @@ next_order c = record { queue = c.orders; act = queue.DeqWait }
 abbrev pub hand_out : CookNext → ℕ → MvarOp
 hand_out c dish = record { mvar = c.hatch; act = mvar.Put dish }
 
-abbrev pub number_of : Reply → Option ℕ
-number_of (reply.Value n) = Some n
-number_of a = None
+abbrev pub number_replied : Reply → Option ℕ
+number_replied (reply.Value n) = Some n
+number_replied a = None
 
 -- the order's dish goes into the hatch; any other reply is the whole's
 abbrev pub cooked : CookNext → Reply → Option ℕ → Meaning
@@ -38,7 +38,7 @@ cooked c a (Some order) = mvar_meaning (hand_out c order)
 cooked c a None = meaning (replies a)
 
 abbrev pub cook_meaning : CookNext → Meaning
-cook_meaning c = then_meaning (queue_meaning (next_order c)) (λ a. cooked c a (number_of a))
+cook_meaning c = then_meaning (queue_meaning (next_order c)) (λ a. cooked c a (number_replied a))
 
 abbrev pub cook_end : CookNext → ℕ
 cook_end c = max (queue_end (next_order c)) (mvar_end (hand_out c 0))

@@ -1,7 +1,7 @@
 //! Where a kitchen's orders and its hatch lie, and what the cook does to both in one step.
 
 ghost use Rattle.std.specs.Prelude.{◌≡◌, ◌<◌, ⊤, IfOk, length};
-ghost use Rattle.kc_kitchen.specs.Kitchen.{HasKitchen, IsKitchen, cook_end, cook_meaning, hand_out, next_order, number_of};
+ghost use Rattle.kc_kitchen.specs.Kitchen.{HasKitchen, IsKitchen, cook_end, cook_meaning, hand_out, next_order, number_replied};
 
 use kc_cells::{Mvar, MvarAct, MvarOp};
 use kc_model::{Loc, MOST, Reply};
@@ -114,7 +114,7 @@ impl CookNext {
 }
 
 fn number_of(reply: &Reply) -> Option<u32>
-    ensures { result ≡ number_of reply.now }
+    ensures { result ≡ number_replied reply.now }
 {
     match reply {
         Reply::Value(number) => Some(*number),

@@ -77,19 +77,19 @@ LocIsFit o = loc_last o < MOST_LOCATIONS
 
 -- ---- on contents: the content of a location is its value
 
-abbrev pub after : Outcome → (ℕ → ℕ) → Plain
-after o m = record { outcome = o; map = m }
+abbrev pub plain_after : Outcome → (ℕ → ℕ) → Plain
+plain_after o m = record { outcome = o; map = m }
 
 -- the reply, and the contents then
 abbrev pub loc_value : LocOp → (ℕ → ℕ) → Plain
-loc_value (op.Get l) m = after (replied (reply.Value (m l.0))) m
-loc_value (op.Set l v) m = after (replied reply.Unit) (put m l.0 v)
-loc_value (op.Exchange l v) m = after (replied (reply.Value (m l.0))) (put m l.0 v)
-loc_value (op.Swap a b) m = after (replied reply.Unit) (put (put m a.0 (m b.0)) b.0 (m a.0))
-loc_value (op.Cas l before new) m = after (replied (reply.Bool (m l.0 == before))) (cond (m l.0 == before) (put m l.0 new) m)
-loc_value (op.FetchAdd l n) m = after (replied (reply.Value (m l.0))) (put m l.0 (wrapped (m l.0 + n)))
-loc_value (op.Incr l) m = after (replied reply.Unit) (put m l.0 (wrapped (m l.0 + 1)))
-loc_value (op.Decr l) m = after (replied reply.Unit) (put m l.0 (wrapped (m l.0 + (2 ^ 32 - 1))))
-loc_value (op.Update l f) m = after (replied (reply.Value (m l.0))) (put m l.0 (result_of f (m l.0)))
-loc_value (op.Modify l f) m = after (replied reply.Unit) (put m l.0 (result_of f (m l.0)))
-loc_value (op.Check l r n) m = after (cond (holds r (m l.0) n) (replied reply.Unit) retried) m
+loc_value (op.Get l) m = plain_after (replied (reply.Value (m l.0))) m
+loc_value (op.Set l v) m = plain_after (replied reply.Unit) (put m l.0 v)
+loc_value (op.Exchange l v) m = plain_after (replied (reply.Value (m l.0))) (put m l.0 v)
+loc_value (op.Swap a b) m = plain_after (replied reply.Unit) (put (put m a.0 (m b.0)) b.0 (m a.0))
+loc_value (op.Cas l before new) m = plain_after (replied (reply.Bool (m l.0 == before))) (cond (m l.0 == before) (put m l.0 new) m)
+loc_value (op.FetchAdd l n) m = plain_after (replied (reply.Value (m l.0))) (put m l.0 (wrapped (m l.0 + n)))
+loc_value (op.Incr l) m = plain_after (replied reply.Unit) (put m l.0 (wrapped (m l.0 + 1)))
+loc_value (op.Decr l) m = plain_after (replied reply.Unit) (put m l.0 (wrapped (m l.0 + (2 ^ 32 - 1))))
+loc_value (op.Update l f) m = plain_after (replied (reply.Value (m l.0))) (put m l.0 (result_of f (m l.0)))
+loc_value (op.Modify l f) m = plain_after (replied reply.Unit) (put m l.0 (result_of f (m l.0)))
+loc_value (op.Check l r n) m = plain_after (cond (holds r (m l.0) n) (replied reply.Unit) retried) m

@@ -12,8 +12,8 @@ use Rattle.atomic_table.specs.Table as table
 use Rattle.atomic_table.specs.Table.{Me, Allows, Enters, Joins, Splits, keeps}
 use Rattle.atomic_table.proofs.Lists.{at_set, at_snoc}
 use Rattle.kc_history.specs.Callers.{of_caller}
-use Rattle.kc_locked.specs.Held.{HeldView, held}
-use Rattle.kc_locked.specs.Locked.{pass_part, free_view, shared_out, first_view, is_pass, left_of, PassesFit, LockFits, LockKept, no_passes, passes_gathered, pass_dealt, passes_left, LockEnded}
+use Rattle.kc_locked.specs.Held.{HeldView, held_view}
+use Rattle.kc_locked.specs.Locked.{pass_part, free_view, shared_out, first_view, is_pass, parts_left, PassesFit, LockFits, LockKept, no_passes, passes_gathered, pass_dealt, passes_left, LockEnded}
 use Rattle.kc_locked.specs.Origin.{LockOrigin, origin}
 use Rattle.kc_locked.specs.declared.held.TheConstants.{MOST_COMMITS}
 use Rattle.kc_locked.specs.declared.rule.Part.{Part}
@@ -24,7 +24,7 @@ use Rattle.kc_model.specs.declared.footprint.Entry.{Entry}
 use Rattle.atomic_table.specs.Seated.{TableId}
 use Rattle.kc_locked.proofs.Sound.{sound_first}
 use Rattle.kc_locked.proofs.Views.{PassesFit-append, held_on, held_beside}
-use Rattle.kc_locked.specs.Locked.{Matches}
+use Rattle.kc_locked.specs.Locked.{MatchesPasses}
 use Rattle.kc_locked.specs.Passes.{PassView, pass_of, passes_of}
 
 off : {A : Type 0} → false ≡ true → A
@@ -51,13 +51,13 @@ once_first k j (x ∷ ns) = by_test (j == k) refl (once_first k (j + 1) ns)
         let none = none_before k (j + 1) ns (omega arith) in omega arith
     by_test false e le = let c = counted_cons (is_pass k) (pass_part j x []) (shared_out (j + 1) ns) false e in omega arith
 
-left_first : (j : ℕ) (ns : List ℕ) → left_of (shared_out j ns) ≡ sum ns
+left_first : (j : ℕ) (ns : List ℕ) → parts_left (shared_out j ns) ≡ sum ns
 left_first j [] = refl
 left_first j (x ∷ ns) = let h = left_first (j + 1) ns in let c = sum_by-cons (λ (p : Part). p.left) (pass_part j x []) (shared_out (j + 1) ns) in let s = sum_by-cons (λ (n : ℕ). n) x ns in omega arith
 
-pub opens : (o : LockOrigin) (h : HeldView) → sum o.shares ≤ MOST_COMMITS → h ≡ held o.values [] (opened o.values) (sum o.shares) → LockKept o (table.opening (0 ∷ 0 ∷ []) (h ∷ []) (first_view o))
+pub opens : (o : LockOrigin) (h : HeldView) → sum o.shares ≤ MOST_COMMITS → h ≡ held_view o.values [] (opened o.values) (sum o.shares) → LockKept o (table.opening (0 ∷ 0 ∷ []) (h ∷ []) (first_view o))
 opens o h most is = record {
-  now = held o.values [] (opened o.values) (sum o.shares);
+  now = held_view o.values [] (opened o.values) (sum o.shares);
   holder = 0;
   one_slot = refl;
   two_words = refl;
@@ -71,8 +71,8 @@ opens o h most is = record {
   space = (let all = left_first 0 o.shares in omega arith);
 }
   where
-    only : (i : ℕ) (v : View) → get_elem? (first_view o ∷ []) i ≡ some v → LockFits o (held o.values [] (opened o.values) (sum o.shares)) 0 0 i v
-    only zero v at = subst (LockFits o (held o.values [] (opened o.values) (sum o.shares)) 0 0 0) (some-injective (first_view o) v at) (record { parts = fits_first (length o.shares) 0 o.shares (omega arith); lock = λ h. off h })
+    only : (i : ℕ) (v : View) → get_elem? (first_view o ∷ []) i ≡ some v → LockFits o (held_view o.values [] (opened o.values) (sum o.shares)) 0 0 i v
+    only zero v at = subst (LockFits o (held_view o.values [] (opened o.values) (sum o.shares)) 0 0 0) (some-injective (first_view o) v at) (record { parts = fits_first (length o.shares) 0 o.shares (omega arith); lock = λ h. off h })
     only (suc i) v at = absurd (some-ne-none v (sym at))
 
 -- ---- passes go out and come back
@@ -92,7 +92,7 @@ arrives o slots i s kept count small = (
     callers = kept.callers;
     views = λ j u e. ⊎_elim (kept.views j u) (λ same. subst (LockFits o kept.now (slice_index s.words 0) kept.holder j) same (record { parts = tt; lock = λ h. off h })) (at_snoc s.views no_passes u j e);
     once = λ k. let one = kept.once k in let t = sum_by_push (λ (u : View). count_by (is_pass k) u.parts) s.views no_passes in omega arith;
-    space = (let sp = kept.space in let t = sum_by_push (λ (u : View). left_of u.parts) s.views no_passes in omega arith);
+    space = (let sp = kept.space in let t = sum_by_push (λ (u : View). parts_left u.parts) s.views no_passes in omega arith);
   },
   refl,
 )
@@ -127,8 +127,8 @@ deals o id v s kept at =
       space = (
           let sp = kept.space in
           let c = sum_by-take-drop (λ (p : Part). p.left) v.parts 1 in
-          let t = sum_set (λ (u : View). left_of u.parts) s.views id v w at in
-          let t' = sum_by_push (λ (u : View). left_of u.parts) (set s.views id w) x in omega arith);
+          let t = sum_set (λ (u : View). parts_left u.parts) s.views id v w at in
+          let t' = sum_by_push (λ (u : View). parts_left u.parts) (set s.views id w) x in omega arith);
     }
   where
     others : (ps : List Part) → PassesFit (length o.shares) kept.now.history ps → PassesFit (length o.shares) kept.now.history (drop 1 ps)
@@ -170,8 +170,8 @@ gathers o id v other w none s kept at apart there =
       space = (
           let sp = kept.space in
           let e = sum_by-append (λ (p : Part). p.left) v.parts w.parts in
-          let t = sum_set (λ (u : View). left_of u.parts) s.views id v both at in
-          let t' = sum_set (λ (u : View). left_of u.parts) (set s.views id both) other w no_passes there in omega arith);
+          let t = sum_set (λ (u : View). parts_left u.parts) s.views id v both at in
+          let t' = sum_set (λ (u : View). parts_left u.parts) (set s.views id both) other w no_passes there in omega arith);
     }
 
 -- ---- the look at the end
@@ -200,27 +200,27 @@ ends o slots id me s kept count at small =
                 (λ (x : (j ≢ id) × (get_elem? s.views j ≡ some u)). kept.views j u x.1)
                 (at_set s.views id j w u e);
             once = λ k. let one = kept.once k in let t = sum_set (λ (u : View). count_by (is_pass k) u.parts) s.views id me.0 w at in omega arith;
-            space = (let sp = kept.space in let t = sum_set (λ (u : View). left_of u.parts) s.views id me.0 w at in omega arith);
+            space = (let sp = kept.space in let t = sum_set (λ (u : View). parts_left u.parts) s.views id me.0 w at in omega arith);
           }),
       record { now = kept.now; is = refl; opening = kept.opening; sound = kept.sound; below = kept.callers; fit = f.parts },
     )
 
 -- ---- the passes that came back
 
-Matches-more : (ps : List Part) (ss : List PassView) (p : Part) (s : PassView) → Matches ps ss → p.caller ≡ s.caller → p.own ≡ s.own → Matches (ps ++ p ∷ []) (ss ++ s ∷ [])
+Matches-more : (ps : List Part) (ss : List PassView) (p : Part) (s : PassView) → MatchesPasses ps ss → p.caller ≡ s.caller → p.own ≡ s.own → MatchesPasses (ps ++ p ∷ []) (ss ++ s ∷ [])
 Matches-more [] [] p s m e f = (e, f, tt)
 Matches-more [] (x ∷ ss) p s m e f = absurd m
 Matches-more (q ∷ ps) [] p s m e f = absurd m
 Matches-more (q ∷ ps) (x ∷ ss) p s m e f = (m.0, m.1, Matches-more ps ss p s m.2 e f)
 
-pub comes_back : (me : Me HeldView View) (caller left : ℕ) (own : List Entry) (ps : List Part) (ss : List PassView) (v : PassView) → me ≡ (free_view (pass_part caller left own ∷ []), []) → v.caller ≡ caller → v.own ≡ own → Matches ps ss → Matches (ps ++ me.0.parts) (ss ++ v ∷ [])
+pub comes_back : (me : Me HeldView View) (caller left : ℕ) (own : List Entry) (ps : List Part) (ss : List PassView) (v : PassView) → me ≡ (free_view (pass_part caller left own ∷ []), []) → v.caller ≡ caller → v.own ≡ own → MatchesPasses ps ss → MatchesPasses (ps ++ me.0.parts) (ss ++ v ∷ [])
 comes_back me caller left own ps ss v is n o m =
-    subst (λ l. Matches (ps ++ l) (ss ++ v ∷ [])) (sym (ap (λ (x : Me HeldView View). x.0.parts) is)) (Matches-more ps ss (pass_part caller left own) v m (sym n) (sym o))
+    subst (λ l. MatchesPasses (ps ++ l) (ss ++ v ∷ [])) (sym (ap (λ (x : Me HeldView View). x.0.parts) is)) (Matches-more ps ss (pass_part caller left own) v m (sym n) (sym o))
 
-pub owns_all : (n : ℕ) (h : List Entry) (ps : List Part) (ss : List PassView) → PassesFit n h ps → Matches ps ss → All (λ (p : PassView). of_caller p.caller h ≡ p.own) ss
+pub owns_all : (n : ℕ) (h : List Entry) (ps : List Part) (ss : List PassView) → PassesFit n h ps → MatchesPasses ps ss → All (λ (p : PassView). of_caller p.caller h ≡ p.own) ss
 owns_all n h ps ss e m = λ k d lt. go ps ss e m k d lt
   where
-    go : (ps : List Part) (ss : List PassView) → PassesFit n h ps → Matches ps ss → (k : ℕ) (d : PassView) → k < length ss → of_caller (get_or ss k d).caller h ≡ (get_or ss k d).own
+    go : (ps : List Part) (ss : List PassView) → PassesFit n h ps → MatchesPasses ps ss → (k : ℕ) (d : PassView) → k < length ss → of_caller (get_or ss k d).caller h ≡ (get_or ss k d).own
     go [] [] e m k d lt = absurd (omega arith)
     go [] (s ∷ ss) e m k d lt = absurd m
     go (p ∷ ps) [] e m k d lt = absurd m
@@ -235,11 +235,11 @@ pub none_left : {A : Type 0} (xs : List A) (n : ℕ) → n ≡ length xs → n �
 none_left [] n e z = refl
 none_left (x ∷ xs) n e z = absurd (omega arith)
 
-pub opens_on : (values shares vs ss : List ℕ) (spare : ℕ) (h : HeldView) (slots : List HeldView) → sum shares ≤ MOST_COMMITS → vs ≡ values → ss ≡ shares → spare ≡ sum shares → h ≡ held values [] (opened values) spare → slots ≡ h ∷ []
+pub opens_on : (values shares vs ss : List ℕ) (spare : ℕ) (h : HeldView) (slots : List HeldView) → sum shares ≤ MOST_COMMITS → vs ≡ values → ss ≡ shares → spare ≡ sum shares → h ≡ held_view values [] (opened values) spare → slots ≡ h ∷ []
     → LockKept (origin vs ss) (table.opening (0 ∷ 0 ∷ []) slots (first_view (origin vs ss)))
 opens_on values shares vs ss spare h slots most v s sp is one =
     subst (λ l. LockKept (origin vs ss) (table.opening (0 ∷ 0 ∷ []) l (first_view (origin vs ss)))) (sym one)
-    (opens (origin vs ss) h (rw s most) (is ∙ (λ i. held (sym v i) [] (opened (sym v i)) ((sp ∙ ap sum (sym s)) i))))
+    (opens (origin vs ss) h (rw s most) (is ∙ (λ i. held_view (sym v i) [] (opened (sym v i)) ((sp ∙ ap sum (sym s)) i))))
 
 -- ---- the first pass goes out
 

@@ -3,9 +3,9 @@ use Rattle.std.proofs.Common.{◌≡◌, ℕ, List, [], ◌∷◌, Result, Ok, E
 use Rattle.std.specs.Prelude.{IfOk, OnErr}
 use Rattle.atomic_table.specs.Table.{Me, rest}
 use Rattle.kc_locked.proofs.Sound.{sound_more}
-use Rattle.kc_locked.specs.Held.{HeldView, IsSound, Adds, Commits}
+use Rattle.kc_locked.specs.Held.{HeldView, IsSound, Adds, CommitsLocked}
 use Rattle.kc_locked.specs.Locked.{Grown, pass_part, free_view}
-use Rattle.kc_locked.specs.Locked.{made_by, own_first}
+use Rattle.kc_locked.specs.Locked.{entered_by, own_first}
 use Rattle.kc_locked.specs.declared.held.Waits.{Waits}
 use Rattle.kc_locked.specs.declared.rule.View.{View}
 use Rattle.kc_model.specs.declared.footprint.Entry.{Entry}
@@ -29,7 +29,7 @@ pub grown_none : (k : ℕ) (h : HeldView) → IsSound h → Grown k [] h h
 grown_none k h sound = record { sound = sound; history = sym (append-nil h.history); opening = refl; spare = omega arith; mine = tt }
 
 -- what came of the commit, whether it waits or not
-pub entered : (m : Meaning) (a : Answer) (h now : HeldView) (e : Entry) (r : Result (Unit {0}) Waits) → IsSound h → IfOk r (λ _. Commits m a e h now) → OnErr r (now ≡ h) → Grown e.caller (made_by r e) h now
+pub entered : (m : Meaning) (a : Answer) (h now : HeldView) (e : Entry) (r : Result (Unit {0}) Waits) → IsSound h → IfOk r (λ _. CommitsLocked m a e h now) → OnErr r (now ≡ h) → Grown e.caller (entered_by r e) h now
 entered m a h now e (Ok u) sound done waits = grown_one h now e sound done.adds
 entered m a h now e (Err w) sound done waits = subst (Grown e.caller [] h) (sym waits) (grown_none e.caller h sound)
 

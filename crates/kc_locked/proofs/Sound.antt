@@ -2,7 +2,7 @@
 use Rattle.std.proofs.Common.{◌≡◌, ℕ, zero, suc, ◌+◌, ◌≤◌, List, [], ◌∷◌, ◌++◌, length, Some, None, Option, refl, sym, ap, subst, ◌∙◌, arith, length-append}
 use Rattle.std.proofs.Math.Path.{fun_ext}
 use Rattle.std.proofs.lemmas.List.{ext_get_or}
-use Rattle.kc_locked.specs.Held.{HeldView, held, IsSound}
+use Rattle.kc_locked.specs.Held.{HeldView, held_view, IsSound}
 use Rattle.kc_locked.specs.declared.held.TheConstants.{MOST_COMMITS}
 use Rattle.kc_model.proofs.Stores.{opened_length}
 use Rattle.kc_model.specs.Footprint.{put_at}
@@ -21,14 +21,14 @@ legal_more : (s mid e : Store) (es : List Entry) (x : Entry) → IsLegal s es mi
 legal_more s mid e [] x here finds end = subst (λ (t : Store). Finds x.footprint t × (e ≡ after x.footprint t)) here (finds, end)
 legal_more s mid e (y ∷ es) x h finds end = (h.0, legal_more (after y.footprint s) mid e es x h.1 finds end)
 
-pub sound_more : (h : HeldView) (x : Entry) (cells : List Cell) (spare : ℕ) → IsSound h → Finds x.footprint (store_of h.cells) → store_of cells ≡ after x.footprint (store_of h.cells) → length cells ≡ length h.cells → spare + 1 ≡ h.spare → IsSound (held h.opening (h.history ++ x ∷ []) cells spare)
+pub sound_more : (h : HeldView) (x : Entry) (cells : List Cell) (spare : ℕ) → IsSound h → Finds x.footprint (store_of h.cells) → store_of cells ≡ after x.footprint (store_of h.cells) → length cells ≡ length h.cells → spare + 1 ≡ h.spare → IsSound (held_view h.opening (h.history ++ x ∷ []) cells spare)
 sound_more h x cells spare sound finds end size less = record {
   legal = legal_more _ _ _ h.history x sound.legal finds end;
   size = size ∙ sound.size;
   most = (let m = sound.most in let l = length-append h.history (x ∷ []) in omega arith);
 }
 
-pub sound_first : (values : List ℕ) (spare : ℕ) → spare ≤ MOST_COMMITS → IsSound (held values [] (opened values) spare)
+pub sound_first : (values : List ℕ) (spare : ℕ) → spare ≤ MOST_COMMITS → IsSound (held_view values [] (opened values) spare)
 sound_first values spare le = record { legal = refl; size = opened_length values; most = omega arith }
 
 -- ---- no location wears out

@@ -13,7 +13,7 @@ use Rattle.atomic_table.proofs.Lists.{at_set, set_here, set_again}
 use Rattle.kc_history.specs.Callers.{of_caller, IsBelowCallers}
 use Rattle.kc_locked.proofs.Views.{own_more, pass_here, all_other, all_below, held_here}
 use Rattle.kc_locked.specs.Held.{HeldView}
-use Rattle.kc_locked.specs.Locked.{PassesFit, pass_part, free_view, lock_view, is_pass, left_of, LockFits, LockKept, Took, Gave, Grown, Holds, committed}
+use Rattle.kc_locked.specs.Locked.{PassesFit, pass_part, free_view, lock_view, is_pass, parts_left, LockFits, LockKept, TookLock, GaveLock, Grown, HoldsLock, committed}
 use Rattle.kc_locked.specs.Origin.{LockOrigin}
 use Rattle.kc_locked.specs.declared.rule.View.{View}
 use Rattle.kc_model.proofs.Sums.{sum_set, sum_one, sum_two}
@@ -50,7 +50,7 @@ module _ (o : LockOrigin) (s : table.State HeldView View) (id : ℕ) (me : Mine)
               (λ (x : (j ≢ id) × (get_elem? s.views j ≡ some u)). record { parts = (kept.views j u x.1).parts; lock = λ h. absurd (nobody_holds j u x.1 h) })
               (at_set s.views id j w u e);
           once = λ k. let one = kept.once k in let t = sum_set (λ (u : View). count_by (is_pass k) u.parts) s.views id me.0 w at in omega arith;
-          space = (let sp = kept.space in let t = sum_set (λ (u : View). left_of u.parts) s.views id me.0 w at in omega arith);
+          space = (let sp = kept.space in let t = sum_set (λ (u : View). parts_left u.parts) s.views id me.0 w at in omega arith);
         }
 
   -- A word changed, and nobody's view: where it is the lock's, it was taken and is.
@@ -84,16 +84,16 @@ above word lt n = by_test (n == 0) refl
     by_test false e = let ne = eqb-false n 0 e in omega arith
 
 -- The lock is taken by a step that leaves a number above 0, whatever it finds.
-pub takes_lock : (o : LockOrigin) (slots id : ℕ) (me : Mine) (f : ℕ → ℕ) → ((n : ℕ) → 0 < f n) → Allows (LockKept o) slots id me 0 f (Took o me)
+pub takes_lock : (o : LockOrigin) (slots id : ℕ) (me : Mine) (f : ℕ → ℕ) → ((n : ℕ) → 0 < f n) → Allows (LockKept o) slots id me 0 f (TookLock o me)
 takes_lock o slots id me f above s kept count at small = by_test (slice_index s.words 0 == 0) refl
   where
     n : ℕ
     n = slice_index s.words 0
 
-    by_test : (b : Bool) → (n == 0) ≡ b → (w : View) × (a : table.Act HeldView) × table.Valid s.homes me.1 a × LockKept o (stepped s 0 (f n) id me.1 w a) × Took o me n (w, table.carried_after me.1 a)
+    by_test : (b : Bool) → (n == 0) ≡ b → (w : View) × (a : table.Act HeldView) × table.Valid s.homes me.1 a × LockKept o (stepped s 0 (f n) id me.1 w a) × TookLock o me n (w, table.carried_after me.1 a)
     by_test true e =
         let z : n ≡ 0 = eqb-true _ 0 e in
-        let left : left_of me.0.parts ≤ sum_by (λ (u : View). left_of u.parts) s.views = sum_one (λ (u : View). left_of u.parts) s.views id me.0 at in
+        let left : parts_left me.0.parts ≤ sum_by (λ (u : View). parts_left u.parts) s.views = sum_one (λ (u : View). parts_left u.parts) s.views id me.0 at in
         let sp = kept.space in (
           lock_view me.0.parts kept.now,
           takes 0 kept.now,
@@ -148,8 +148,8 @@ module _ (o : LockOrigin) (s : table.State HeldView View) (id : ℕ) (k left : �
         once = λ j. let one = kept.once j in let t = sum_set (λ (u : View). count_by (is_pass j) u.parts) s.views id v w at in omega arith;
         space = (
             let sp = kept.space in
-            let t = sum_set (λ (u : View). left_of u.parts) s.views id v w at in
-            let one = sum_one (λ (u : View). left_of u.parts) s.views id v at in
+            let t = sum_set (λ (u : View). parts_left u.parts) s.views id v w at in
+            let one = sum_one (λ (u : View). parts_left u.parts) s.views id v at in
             let less = grown.spare in
             let was = ap (λ (h : HeldView). h.spare) lock_facts.1 in omega arith);
       }
@@ -160,7 +160,7 @@ module _ (o : LockOrigin) (s : table.State HeldView View) (id : ℕ) (k left : �
           let one = kept.once k in
           let hit = pass_here k (pass_part k left own) [] refl in omega arith
 
-pub gives_lock : (o : LockOrigin) (slots id : ℕ) (me : Mine) (es : List Entry) → Holds es me → Allows (LockKept o) slots id me 0 (λ _. 0) (λ _. Gave es me 0)
+pub gives_lock : (o : LockOrigin) (slots id : ℕ) (me : Mine) (es : List Entry) → HoldsLock es me → Allows (LockKept o) slots id me 0 (λ _. 0) (λ _. GaveLock es me 0)
 gives_lock o slots id me es h =
     let v = lock_view (pass_part h.caller h.left h.own ∷ []) h.found in
     let w = free_view (pass_part h.caller (h.left - length es) (h.own ++ es) ∷ []) in

@@ -20,8 +20,8 @@ pub record HeldView : Type 0 where
   pub cells : List Cell
   pub spare : ℕ
 
-abbrev pub held : List ℕ → List Entry → List Cell → ℕ → HeldView
-held opening history cells spare = record { opening = opening; history = history; cells = cells; spare = spare }
+abbrev pub held_view : List ℕ → List Entry → List Cell → ℕ → HeldView
+held_view opening history cells spare = record { opening = opening; history = history; cells = cells; spare = spare }
 
 -- the history is legal from the opening values at versions 0 and makes the store; it has few enough entries that no version ever is the last
 pub record IsSound (h : HeldView) : Type 0 where
@@ -39,7 +39,7 @@ pub record Adds (e : Entry) (before now : HeldView) : Type 0 where
   pub spare : now.spare + 1 ≡ before.spare
 
 -- The entry was added, and the answer is what the meaning comes to wherever the entry's reads stand, as they did in the store before.
-pub record Commits (m : Meaning) (a : Answer) (e : Entry) (before now : HeldView) : Type 0 where
+pub record CommitsLocked (m : Meaning) (a : Answer) (e : Entry) (before now : HeldView) : Type 0 where
   pub answers : Answers m a e.footprint
   pub adds : Adds e before now
 

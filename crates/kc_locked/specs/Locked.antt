@@ -6,7 +6,7 @@ use lib.ListN.{get_elem?}
 use Rattle.atomic_table.specs.Table as table
 use Rattle.atomic_table.specs.Table.{Me}
 use Rattle.kc_history.specs.Callers.{of_caller, IsBelowCallers}
-use Rattle.kc_locked.specs.Held.{HeldView, held, IsSound}
+use Rattle.kc_locked.specs.Held.{HeldView, held_view, IsSound}
 use Rattle.kc_locked.specs.Origin.{LockOrigin}
 use Rattle.kc_locked.specs.Passes.{PassView}
 use Rattle.kc_locked.specs.declared.held.Waits.{Waits}
@@ -23,7 +23,7 @@ abbrev pub pass_part : ℕ → ℕ → List Entry → Part
 pass_part caller left own = record { caller = caller; left = left; own = own }
 
 abbrev pub nothing_found : HeldView
-nothing_found = held [] [] [] 0
+nothing_found = held_view [] [] [] 0
 
 -- a view without the lock, and with it
 abbrev pub free_view : List Part → View
@@ -45,8 +45,8 @@ abbrev pub is_pass : ℕ → Part → Bool
 is_pass k p = p.caller == k
 
 -- how many commits they may still make
-abbrev pub left_of : List Part → ℕ
-left_of ps = sum_by (λ (p : Part). p.left) ps
+abbrev pub parts_left : List Part → ℕ
+parts_left ps = sum_by (λ (p : Part). p.left) ps
 
 -- each pass's own list is its part of the history, and it is one of so many callers
 abbrev pub PassesFit : ℕ → List Entry → List Part → Type 0
@@ -75,12 +75,12 @@ pub record LockKept (o : LockOrigin) (s : table.State HeldView View) : Type 0 wh
   pub callers : IsBelowCallers (length o.shares) now.history
   pub views : (i : ℕ) (v : View) → get_elem? s.views i ≡ some v → LockFits o now (slice_index s.words 0) holder i v
   pub once : (k : ℕ) → sum_by (λ (v : View). count_by (is_pass k) v.parts) s.views ≤ 1
-  pub space : sum_by (λ (v : View). left_of v.parts) s.views ≤ now.spare
+  pub space : sum_by (λ (v : View). parts_left v.parts) s.views ≤ now.spare
 
 -- The lock was free, and one has it, with what was in the slot; or nothing changed.
-abbrev pub Took : LockOrigin → Me HeldView View → ℕ → Me HeldView View → Type 0
-Took o me found after =
-    (found ≡ 0 → (h : HeldView) × (after ≡ (lock_view me.0.parts h, (0, h) ∷ me.1)) × IsSound h × (h.opening ≡ o.values) × (left_of me.0.parts ≤ h.spare))
+abbrev pub TookLock : LockOrigin → Me HeldView View → ℕ → Me HeldView View → Type 0
+TookLock o me found after =
+    (found ≡ 0 → (h : HeldView) × (after ≡ (lock_view me.0.parts h, (0, h) ∷ me.1)) × IsSound h × (h.opening ≡ o.values) × (parts_left me.0.parts ≤ h.spare))
     × (found ≢ 0 → after ≡ me)
 
 -- these entries of the caller were added, and room was used for them
@@ -97,11 +97,11 @@ committed [] es = []
 committed (p ∷ ps) es = pass_part p.caller (p.left - length es) (p.own ++ es) ∷ ps
 
 -- the lock is free again, with these commits of the pass
-abbrev pub Gave : List Entry → Me HeldView View → ℕ → Me HeldView View → Type 0
-Gave es me found after = after ≡ (free_view (committed me.0.parts es), [])
+abbrev pub GaveLock : List Entry → Me HeldView View → ℕ → Me HeldView View → Type 0
+GaveLock es me found after = after ≡ (free_view (committed me.0.parts es), [])
 
 -- a pass has the lock, and in the slot, beside what was found, these entries of its own
-pub record Holds (es : List Entry) (me : Me HeldView View) : Type 0 where
+pub record HoldsLock (es : List Entry) (me : Me HeldView View) : Type 0 where
   pub caller : ℕ
   pub left : ℕ
   pub own : List Entry
@@ -135,13 +135,13 @@ pub record LockEnded (o : LockOrigin) (me after : Me HeldView View) : Type 0 whe
   pub fit : PassesFit (length o.shares) now.history me.0.parts
 
 -- what was entered: one commit, or where it waits none
-abbrev pub made_by : {A : Type 0} → Result A Waits → Entry → List Entry
-made_by (Ok a) e = e ∷ []
-made_by (Err w) e = []
+abbrev pub entered_by : {A : Type 0} → Result A Waits → Entry → List Entry
+entered_by (Ok a) e = e ∷ []
+entered_by (Err w) e = []
 
 -- one has the lock now, with what was in the slot
 abbrev pub Taken : LockOrigin → Me HeldView View → Me HeldView View → Type 0
-Taken o me after = (h : HeldView) × (after ≡ (lock_view me.0.parts h, (0, h) ∷ me.1)) × IsSound h × (h.opening ≡ o.values) × (left_of me.0.parts ≤ h.spare)
+Taken o me after = (h : HeldView) × (after ≡ (lock_view me.0.parts h, (0, h) ∷ me.1)) × IsSound h × (h.opening ≡ o.values) × (parts_left me.0.parts ≤ h.spare)
 
 -- the parts of a view
 abbrev pub own_first : List Part → List Entry
@@ -149,8 +149,8 @@ own_first [] = []
 own_first (p ∷ ps) = p.own
 
 -- each part is of the pass at its place
-abbrev pub Matches : List Part → List PassView → Type 0
-Matches [] [] = Unit {0}
-Matches [] (s ∷ ss) = ⊥
-Matches (p ∷ ps) [] = ⊥
-Matches (p ∷ ps) (s ∷ ss) = (p.caller ≡ s.caller) × (p.own ≡ s.own) × Matches ps ss
+abbrev pub MatchesPasses : List Part → List PassView → Type 0
+MatchesPasses [] [] = Unit {0}
+MatchesPasses [] (s ∷ ss) = ⊥
+MatchesPasses (p ∷ ps) [] = ⊥
+MatchesPasses (p ∷ ps) (s ∷ ss) = (p.caller ≡ s.caller) × (p.own ≡ s.own) × MatchesPasses ps ss

@@ -2,7 +2,7 @@
 
 ghost use Rattle.std.specs.Prelude.{◌≡◌, ◌++◌, ◌∷◌, [], IfOk};
 ghost use Rattle.kc_locked.specs.declared.history.Told.{Told as Record};
-ghost use Rattle.kc_history.specs.Callers.{entry_of};
+ghost use Rattle.kc_history.specs.Callers.{record_entry};
 ghost use Rattle.kc_locked.specs.History.{told};
 
 use atomic_table::{Play, Seat, Shared, Table, TableRule};
@@ -81,7 +81,7 @@ impl History {
 
     /// Adds an entry at the end.
     pub fn add(&mut self, caller: u32, number: u64, footprint: &Footprint)
-        ensures { self.new ≡ told self.old.opening (self.old.entries ++ entry_of caller number footprint.now ∷ []) }
+        ensures { self.new ≡ told self.old.opening (self.old.entries ++ record_entry caller number footprint.now ∷ []) }
     {
         let table = &self.table;
         add_on::<Brand>(&table.shared, &mut self.seat, caller, number, footprint);
@@ -105,9 +105,9 @@ fn add_on<N: Tells>(
     footprint: &Footprint,
 )
     requires table { (seat.old.table_id ≡ word.now.table_id) × (word.now.table_id.words ≡ 1) }
-    requires next { N.next ≡ told seat.old.me.0.opening (seat.old.me.0.entries ++ entry_of caller number footprint.now ∷ []) }
+    requires next { N.next ≡ told seat.old.me.0.opening (seat.old.me.0.entries ++ record_entry caller number footprint.now ∷ []) }
     ensures table { seat.new.table_id ≡ seat.old.table_id }
-    ensures told { seat.new.me.0 ≡ told seat.old.me.0.opening (seat.old.me.0.entries ++ entry_of caller number footprint.now ∷ []) }
+    ensures told { seat.new.me.0 ≡ told seat.old.me.0.opening (seat.old.me.0.entries ++ record_entry caller number footprint.now ∷ []) }
 {
     word.load::<Becomes<N>>(seat, 0);
 }

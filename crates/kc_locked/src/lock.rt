@@ -1,8 +1,8 @@
 //! The lock: a word of the table. Who takes it has the slot, and who finds it taken sleeps on it at last. Beside it lies the word on
 //! which those sleep that wait for a change.
 ghost use Rattle.std.specs.Prelude.{◌≡◌, ◌<◌, [], true, false};
-ghost use Rattle.kc_history.specs.Callers.{entry_of};
-ghost use Rattle.kc_locked.specs.Locked.{Holds, Taken, committed, free_view, made_by};
+ghost use Rattle.kc_history.specs.Callers.{record_entry};
+ghost use Rattle.kc_locked.specs.Locked.{HoldsLock, Taken, committed, free_view, entered_by};
 
 use crate::held::Waits;
 use crate::rule::{Commits, Gives, Knows, Memory, Notes, Takes, Token};
@@ -107,8 +107,8 @@ pub(crate) fn give<C: Commits>(
     _entered: Result<(), Waits>,
 )
     requires table { (token.old.table_id ≡ memory.now.table_id) × (memory.now.table_id.words ≡ 2) }
-    requires made { C.made ≡ made_by _entered (entry_of caller number _footprint.now) }
-    requires holds { Holds C.made token.old.me }
+    requires made { C.made ≡ entered_by _entered (record_entry caller number _footprint.now) }
+    requires holds { HoldsLock C.made token.old.me }
     ensures table { token.new.table_id ≡ token.old.table_id }
     ensures gave { token.new.me ≡ (free_view (committed token.old.me.0.parts C.made), []) }
 {

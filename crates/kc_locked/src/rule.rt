@@ -65,9 +65,9 @@ impl Knows for Brand {
 pub struct Takes<K: Knows>(PhantomData<K>);
 
 impl<K: Knows> Play<Held, View> for Takes<K> {
-    ghost use Rattle.kc_locked.specs.Locked.{Took};
+    ghost use Rattle.kc_locked.specs.Locked.{TookLock};
 
-    ghost then = { λ step me found after. Took K.origin me found after };
+    ghost then = { λ step me found after. TookLock K.origin me found after };
 }
 
 /// The commits that are made: one, or none.
@@ -88,9 +88,9 @@ impl Commits for Brand {
 pub struct Gives<C: Commits>(PhantomData<C>);
 
 impl<C: Commits> Play<Held, View> for Gives<C> {
-    ghost use Rattle.kc_locked.specs.Locked.{Gave};
+    ghost use Rattle.kc_locked.specs.Locked.{GaveLock};
 
-    ghost then = { λ step me found after. Gave C.made me found after };
+    ghost then = { λ step me found after. GaveLock C.made me found after };
 }
 
 /// While one has the lock, a word that says nothing of the slot changes.

@@ -2,20 +2,20 @@
 use Rattle.std.proofs.Common.{◌≡◌, ◌≢◌, ℕ, ◌<◌, Bool, true, false, refl, sym, ap, ◌∙◌, if◌then◌else◌, ◌==◌, ◌&&◌, List, length, get_or, set, get_or-set_other}
 use Rattle.std.proofs.lemmas.List.{get_or-set_same}
 use borrow.Author.Tests.{eqb-true, eqb-false, eq-eqb, ne_eqb}
-use Rattle.kc_machine.specs.Machine.{put}
+use Rattle.kc_machine.specs.Machine.{put_at_index}
 
 module _ {A : Type 0} where
-  pub put_here : (f : ℕ → A) (i : ℕ) (a : A) → put f i a i ≡ a
-  unfolding put
+  pub put_here : (f : ℕ → A) (i : ℕ) (a : A) → put_at_index f i a i ≡ a
+  unfolding put_at_index
   put_here f i a = rw (eq-eqb i i refl) refl
 
-  pub put_else : (f : ℕ → A) (i : ℕ) (a : A) (j : ℕ) → j ≢ i → put f i a j ≡ f j
-  unfolding put
+  pub put_else : (f : ℕ → A) (i : ℕ) (a : A) (j : ℕ) → j ≢ i → put_at_index f i a j ≡ f j
+  unfolding put_at_index
   put_else f i a j ne = rw (ne_eqb j i ne) refl
 
   -- what stands at j
-  pub put_cases : (P : A → Type 0) (f : ℕ → A) (i : ℕ) (a : A) (j : ℕ) → (j ≡ i → P a) → (j ≢ i → P (f j)) → P (put f i a j)
-  unfolding put
+  pub put_cases : (P : A → Type 0) (f : ℕ → A) (i : ℕ) (a : A) (j : ℕ) → (j ≡ i → P a) → (j ≢ i → P (f j)) → P (put_at_index f i a j)
+  unfolding put_at_index
   put_cases P f i a j here there = go (j == i) refl
     where
       go : (b : Bool) → (j == i) ≡ b → P (if b then a else f j)
@@ -23,7 +23,7 @@ module _ {A : Type 0} where
       go false e = there (eqb-false j i e)
 
 -- a list changed at one place, seen through g
-pub set_seen : {A B : Type 0} (g : A → B) (xs : List A) (i : ℕ) (a d : A) → i < length xs → (j : ℕ) → g (get_or (set xs i a) j d) ≡ put (λ k. g (get_or xs k d)) i (g a) j
+pub set_seen : {A B : Type 0} (g : A → B) (xs : List A) (i : ℕ) (a d : A) → i < length xs → (j : ℕ) → g (get_or (set xs i a) j d) ≡ put_at_index (λ k. g (get_or xs k d)) i (g a) j
 set_seen {A} {B} g xs i a d l j =
     let P : B → Type 0 = (λ b. g (get_or (set xs i a) j d) ≡ b) in
     put_cases P (λ k. g (get_or xs k d)) i (g a) j

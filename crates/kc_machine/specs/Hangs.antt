@@ -62,19 +62,19 @@ look_or_end k None = Tells told.Hung
 look_or_end k (Some seen) = Goes (hang.Look k look.Load)
 
 -- the version that was expected, and the one that was seen
-abbrev pub looked : List Seen → ℕ → ℕ → ℕ → HangNext
-looked reads k expected version = if version == expected then look_or_end (after_line k) (slice_get reads (after_line k)) else Goes (hang.Clear 0 k)
+abbrev pub version_looked : List Seen → ℕ → ℕ → ℕ → HangNext
+version_looked reads k expected version = if version == expected then look_or_end (after_line k) (slice_get reads (after_line k)) else Goes (hang.Clear 0 k)
 
 abbrev pub look_goes_on : List Seen → ℕ → ℕ → LookNext → HangNext
 look_goes_on reads k expected (looking.Goes step) = Goes (hang.Look k step)
-look_goes_on reads k expected (looking.Saw seen) = looked reads k expected seen.version
+look_goes_on reads k expected (looking.Saw seen) = version_looked reads k expected seen.version
 
-abbrev pub look_of : List Seen → ℕ → LookStep → Found → Option Seen → HangNext
-look_of reads k step f None = Goes (hang.Look k step)
-look_of reads k step f (Some expected) = look_goes_on reads k expected.version (look_next expected.loc step f)
+abbrev pub hang_look_next : List Seen → ℕ → LookStep → Found → Option Seen → HangNext
+hang_look_next reads k step f None = Goes (hang.Look k step)
+hang_look_next reads k step f (Some expected) = look_goes_on reads k expected.version (look_next expected.loc step f)
 
 abbrev pub look_or_hung : List Seen → ℕ → LookStep → Found → HangNext
-look_or_hung reads k step f = look_of reads k step f (slice_get reads k)
+look_or_hung reads k step f = hang_look_next reads k step f (slice_get reads k)
 
 abbrev pub hang_next : List Seen → HangStep → Found → HangNext
 hang_next reads (hang.Set k) f = Goes (after_set reads k)

@@ -16,24 +16,24 @@ use Rattle.kc_machine_words.specs.declared.access.Access.{Access}
 use Rattle.kc_machine_words.specs.declared.access.Access.TheVariants as access
 use Rattle.kc_machine_words.specs.declared.access.Found.{Found}
 use Rattle.kc_machine_words.specs.declared.access.Found.TheVariants as found
-use Rattle.kc_machine.specs.Seats.{fresh, access_of, answer_of, begun, halted}
+use Rattle.kc_machine.specs.Seats.{fresh, access_of, seat_answered, begun, halted}
 use Rattle.kc_machine.specs.Words.{control, stored_word, stored_status, stored_owner, stored_first, stored_second, gripped, bits_after, blank_owner}
 use Rattle.kc_machine.specs.declared.seat.Seat.{Seat}
 use Rattle.kc_machine_steps.specs.declared.task.Event.{Event}
 use Rattle.kc_machine_steps.specs.declared.task.Event.TheVariants.{Begin, Step, Halt}
 
 -- f, with a at i
-unfoldable pub put : {A : Type 0} → (ℕ → A) → ℕ → A → ℕ → A
-put f i a j = if j == i then a else f j
+unfoldable pub put_at_index : {A : Type 0} → (ℕ → A) → ℕ → A → ℕ → A
+put_at_index f i a j = if j == i then a else f j
 
 -- the same, if there is an a
 abbrev pub put_some : {A : Type 0} → (ℕ → A) → ℕ → Option A → ℕ → A
 put_some f i None = f
-put_some f i (Some a) = put f i a
+put_some f i (Some a) = put_at_index f i a
 
-abbrev pub put_line : {A : Type 0} → (ℕ → ℕ → A) → ℕ → ℕ → Option A → ℕ → ℕ → A
-put_line f d k None = f
-put_line f d k (Some a) = put f d (put (f d) k a)
+abbrev pub put_at_line : {A : Type 0} → (ℕ → ℕ → A) → ℕ → ℕ → Option A → ℕ → ℕ → A
+put_at_line f d k None = f
+put_at_line f d k (Some a) = put_at_index f d (put_at_index (f d) k a)
 
 -- the words: of locations, of descriptors with their lines, of callers
 pub record World : Type 0 where
@@ -74,10 +74,10 @@ touched w (access.Location l t) = record w { word = put_some w.word l.0 (stored_
 touched w (access.Control d g) = record w { control = put_some w.control d (gripped g (w.control d)) }
 touched w (access.Status d t) = record w { status = put_some w.status d (stored_status t (w.status d)) }
 touched w (access.Owner d t) = record w { owner = put_some w.owner d (stored_owner t) }
-touched w (access.First d k t) = record w { first = put_line w.first d k (stored_first t) }
-touched w (access.Second d k t) = record w { second = put_line w.second d k (stored_second t) }
-touched w (access.Awaiters l b) = record w { awaiters = put w.awaiters l.0 (bits_after b (w.awaiters l.0)) }
-touched w (access.Signal c s) = record w { signal = put w.signal c s }
+touched w (access.First d k t) = record w { first = put_at_line w.first d k (stored_first t) }
+touched w (access.Second d k t) = record w { second = put_at_line w.second d k (stored_second t) }
+touched w (access.Awaiters l b) = record w { awaiters = put_at_index w.awaiters l.0 (bits_after b (w.awaiters l.0)) }
+touched w (access.Signal c s) = record w { signal = put_at_index w.signal c s }
 
 -- a count of holds stays in its range
 abbrev pub room : Grip → Control → Bool
@@ -101,14 +101,14 @@ possible m (access.Signal c s) = nat_lt c m.callers
 -- ---- events
 
 abbrev pub with_seat : State → ℕ → Seat → State
-with_seat m k s = record m { seats = put m.seats k s }
+with_seat m k s = record m { seats = put_at_index m.seats k s }
 
 -- a step is one access and one answer; what isn't possible isn't done
 abbrev pub stepped : State → ℕ → State
 stepped m k =
     let a = access_of (m.seats k) in
     if possible m a
-    then record m { world = touched m.world a; seats = put m.seats k (answer_of (m.seats k) (found_at m.world a)) }
+    then record m { world = touched m.world a; seats = put_at_index m.seats k (seat_answered (m.seats k) (found_at m.world a)) }
     else m
 
 abbrev pub happened : State → Event → State
@@ -142,8 +142,8 @@ abbrev pub pool_size : ℕ → ℕ
 pool_size callers = 3 * callers + 1
 
 -- all words are plain, and no descriptor is held
-abbrev pub opened : Opening → State
-opened o = record {
+abbrev pub opened_state : Opening → State
+opened_state o = record {
   locations = o.locations;
   descriptors = pool_size o.callers;
   callers = o.callers;
@@ -161,7 +161,7 @@ opened o = record {
 }
 
 abbrev pub run : Opening → List Event → State
-run o schedule = run_from (opened o) schedule
+run o schedule = run_from (opened_state o) schedule
 
 -- values at version 0, generations from 0
 abbrev pub opening : List ℕ → ℕ → Opening

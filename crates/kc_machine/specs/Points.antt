@@ -14,8 +14,8 @@ use Rattle.kc_machine.specs.Works as work
 use Rattle.kc_machine.specs.Seats.{blocked_by}
 
 -- the seat s in a commit of these lines, at this point
-abbrev pub seat_at : Seat → Mode → List Line → Point → Seat
-seat_at s m xs p = record s { made = p.made; calls = p.calls; told = None; work = work.Commit (commit_at m xs p.stage) }
+abbrev pub seat_at_point : Seat → Mode → List Line → Point → Seat
+seat_at_point s m xs p = record s { made = p.made; calls = p.calls; told = None; work = work.Commit (commit_at m xs p.stage) }
 
 -- where a task of s ends that made so many steps and took so many descriptors
 abbrev pub seat_told : Seat → ℕ → ℕ → Told → Seat
@@ -29,6 +29,6 @@ first_point s = point s.made s.calls (Scan s.first 0)
 
 -- what follows a step at a point
 abbrev pub seat_next : Seat → Mode → List Line → Point → Next → Seat
-seat_next s m xs p (Goes stage) = seat_at s m xs (point (one_more p.made) p.calls stage)
-seat_next s m xs p (Takes stage) = seat_at s m xs (point (one_more p.made) (one_more p.calls) stage)
+seat_next s m xs p (Goes stage) = seat_at_point s m xs (point (one_more p.made) p.calls stage)
+seat_next s m xs p (Takes stage) = seat_at_point s m xs (point (one_more p.made) (one_more p.calls) stage)
 seat_next s m xs p (Tells t) = seat_told s (one_more p.made) p.calls t

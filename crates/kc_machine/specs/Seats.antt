@@ -32,8 +32,8 @@ use Rattle.kc_machine_steps.specs.Looks.{look_access, look_after, look_tells, lo
 abbrev pub fresh : ℕ → ℕ → ℕ → Seat
 fresh caller descriptors first = record { caller = caller; descriptors = descriptors; first = first; calls = 0; made = 0; blocked = false; told = None; work = work.Idle }
 
-abbrev pub told_of : Seat → Option Told
-told_of s = s.told
+abbrev pub last_told : Seat → Option Told
+last_told s = s.told
 
 abbrev pub own_of_stage : Stage → Option (ℕ × ℕ)
 own_of_stage (Scan d worn) = None
@@ -81,22 +81,22 @@ blocked_by b told.Halted = b
 blocked_by b told.Worn = b
 blocked_by b (told.Changed k) = b
 
-abbrev pub after : Seat → Onward → Seat
-after s onward.Goes = record s { made = one_more s.made }
-after s onward.Takes = record s { made = one_more s.made; calls = one_more s.calls }
-after s onward.Unblocks = record s { made = one_more s.made; blocked = false }
-after s (onward.Tells t) = record s { made = one_more s.made; work = work.Idle; told = Some t; blocked = blocked_by s.blocked t }
+abbrev pub seat_after : Seat → Onward → Seat
+seat_after s onward.Goes = record s { made = one_more s.made }
+seat_after s onward.Takes = record s { made = one_more s.made; calls = one_more s.calls }
+seat_after s onward.Unblocks = record s { made = one_more s.made; blocked = false }
+seat_after s (onward.Tells t) = record s { made = one_more s.made; work = work.Idle; told = Some t; blocked = blocked_by s.blocked t }
 
 abbrev pub answer_by : Seat → Found → Work → Seat
 answer_by s f work.Idle = s
-answer_by s f (work.Look l) = after (record s { work = work.Look (look_after l f) }) (look_tells l f)
-answer_by s f (work.Commit c) = after (record s { work = work.Commit (commit_after s.descriptors s.calls c f) }) (commit_onward s.descriptors s.calls c f)
-answer_by s f (work.Hang h) = after (record s { work = work.Hang (hang_after h f) }) (hang_onward h f)
-answer_by s f (work.Leave l) = after (record s { work = work.Leave (leave_after l) }) (leave_onward l)
-answer_by s f (work.Swap x) = after (record s { work = work.Swap (swap_after s.calls x f) }) (swap_onward s.calls x f)
+answer_by s f (work.Look l) = seat_after (record s { work = work.Look (look_after l f) }) (look_tells l f)
+answer_by s f (work.Commit c) = seat_after (record s { work = work.Commit (commit_after s.descriptors s.calls c f) }) (commit_onward s.descriptors s.calls c f)
+answer_by s f (work.Hang h) = seat_after (record s { work = work.Hang (hang_after h f) }) (hang_onward h f)
+answer_by s f (work.Leave l) = seat_after (record s { work = work.Leave (leave_after l) }) (leave_onward l)
+answer_by s f (work.Swap x) = seat_after (record s { work = work.Swap (swap_after s.calls x f) }) (swap_onward s.calls x f)
 
-abbrev pub answer_of : Seat → Found → Seat
-answer_of s f = answer_by s f s.work
+abbrev pub seat_answered : Seat → Found → Seat
+seat_answered s f = answer_by s f s.work
 
 -- ---- the beginning of a task
 
@@ -124,13 +124,13 @@ begun s t = if is_idle s.work then begun_idle s t else s
 
 -- ---- a halt
 
-abbrev pub ended : Seat → Seat
-ended s = record s { work = work.Idle; told = Some told.Halted }
+abbrev pub seat_halted : Seat → Seat
+seat_halted s = record s { work = work.Idle; told = Some told.Halted }
 
 abbrev pub halted_by : Seat → Work → Seat
-halted_by s (work.Look l) = if halts_at_once l.step then ended s else record s { work = work.Look (look_halted l) }
-halted_by s (work.Commit c) = if unowned c.stage then ended s else record s { work = work.Commit (commit_halted c) }
-halted_by s (work.Swap x) = if ends_at_once x.step then ended s else s
+halted_by s (work.Look l) = if halts_at_once l.step then seat_halted s else record s { work = work.Look (look_halted l) }
+halted_by s (work.Commit c) = if unowned c.stage then seat_halted s else record s { work = work.Commit (commit_halted c) }
+halted_by s (work.Swap x) = if ends_at_once x.step then seat_halted s else s
 halted_by s _ = s
 
 abbrev pub halted : Seat → Seat

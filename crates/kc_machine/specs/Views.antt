@@ -2,7 +2,7 @@
 use Rattle.std.specs.Prelude.{ℕ, ◌+◌, ◌*◌, List, length, get_or, Bool, false, if◌then◌else◌, nat_lt}
 use Rattle.kc_machine.specs.Lists.{seat_at}
 use Rattle.kc_machine.specs.Machine.{State}
-use Rattle.kc_machine.specs.Words.{word_at, awaiters_at, control_at, status_at, owner_at, first_at, second_at, blank_line}
+use Rattle.kc_machine.specs.Words.{location_word, awaiters_at, control_at, status_at, owner_at, first_at, second_at, blank_line}
 use Rattle.kc_machine.specs.declared.machine.Machine.{Machine}
 use Rattle.kc_machine.specs.declared.seat.Seat.{Seat}
 use Rattle.kc_machine.specs.declared.words.Descriptor.{Descriptor}
@@ -25,7 +25,7 @@ state_of ls ds xs bs ss = record {
   descriptors = length ds;
   callers = length ss;
   world = record {
-    word = word_at ls;
+    word = location_word ls;
     awaiters = awaiters_at ls;
     control = control_at ds;
     status = status_at ds;

@@ -100,8 +100,8 @@ blank_descriptor = record { control = control 0 0; status = record { generation 
 abbrev pub blank_line : LineWords
 blank_line = record { first = record { put = false; version = 0; before = 0 }; second = record { loc = 0; after = 0 } }
 
-abbrev pub word_at : List Location → ℕ → Word
-word_at ls l = (get_or ls l blank_location).word
+abbrev pub location_word : List Location → ℕ → Word
+location_word ls l = (get_or ls l blank_location).word
 
 abbrev pub awaiters_at : List Location → ℕ → ℕ
 awaiters_at ls l = (get_or ls l blank_location).awaiters
@@ -126,7 +126,7 @@ with_word_at ls l None = ls
 with_word_at ls l (Some x) = set ls l (record { word = x; awaiters = awaiters_at ls l })
 
 abbrev pub with_awaiters_at : List Location → ℕ → ℕ → List Location
-with_awaiters_at ls l x = set ls l (record { word = word_at ls l; awaiters = x })
+with_awaiters_at ls l x = set ls l (record { word = location_word ls l; awaiters = x })
 
 abbrev pub with_control_at : List Descriptor → ℕ → Option Control → List Descriptor
 with_control_at ds d None = ds

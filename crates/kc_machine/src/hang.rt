@@ -2,7 +2,7 @@
 
 ghost use Rattle.std.specs.Prelude.{◌≡◌};
 ghost use Rattle.kc_machine.specs.Waits.{hang_at, leave_at};
-ghost use Rattle.kc_machine.specs.Hangs.{read_of, hang_access, hang_next, hang_after, hang_onward, look_or_hung, after_set, after_clear, leave_access, leave_after, leave_onward, looked};
+ghost use Rattle.kc_machine.specs.Hangs.{read_of, hang_access, hang_next, hang_after, hang_onward, look_or_hung, after_set, after_clear, leave_access, leave_after, leave_onward, version_looked};
 
 use kc_machine_steps::{LookNext, LookStep, Onward, Told, after_line, look_access, look_next};
 use kc_machine_words::{Access, Bits, Found};
@@ -59,7 +59,7 @@ fn after_clear(reads: &[Seen], read: u32, changed: u32) -> HangNext
 
 // A look has ended: the next look, the end, or the bits are cleared.
 fn looked(reads: &[Seen], read: u32, expected: u32, version: u32) -> HangNext
-    ensures { result ≡ looked reads.now read expected version }
+    ensures { result ≡ version_looked reads.now read expected version }
 {
     if version != expected {
         return HangNext::Goes(HangStep::Clear {

@@ -2,7 +2,7 @@
 
 ghost use Rattle.std.specs.Prelude.{◌≡◌, ◌<◌, ◌≤◌, ◌*◌, ◌↔◌, ◌⊎◌, ℕ, IsTrue, IfOk, IfErr, Err, length, get_or, set};
 ghost use Rattle.kc_machine.specs.Machine.{room};
-ghost use Rattle.kc_machine.specs.Seats.{fresh, answer_of, begun, halted};
+ghost use Rattle.kc_machine.specs.Seats.{fresh, seat_answered, begun, halted};
 ghost use Rattle.kc_machine.specs.Lists.{seat_at, opened_locations};
 ghost use Rattle.kc_machine.specs.Words.{blank_descriptor, blank_line};
 ghost use Rattle.kc_machine.specs.declared.seat.Seat.{Seat};
@@ -45,7 +45,7 @@ fn has_room(grip: Grip, control: Control) -> bool
 }
 
 impl Machine {
-    ghost use Rattle.kc_machine.specs.Machine.{possible, found_at, touched, stepped, event_of, run_from, opened, opening};
+    ghost use Rattle.kc_machine.specs.Machine.{possible, found_at, touched, stepped, event_of, run_from, opened_state, opening};
     ghost use Rattle.kc_machine.specs.Views.{machine_state};
 
     // Whether the word is there, and a count of holds stays in its range.
@@ -183,7 +183,7 @@ impl Machine {
     /// - TooManyCallers: else, exactly for no caller or more than 64
     /// - NoMemory
     pub fn open(alloc: Global, values: &[u32], callers: u32) -> Result<Machine, OpenError>
-        ensures ok { IfOk result (λ machine. machine_state machine ≡ opened (opening values.now callers)) }
+        ensures ok { IfOk result (λ machine. machine_state machine ≡ opened_state (opening values.now callers)) }
         ensures locations { (result ≡ Err OpenError.TooManyLocs) ↔ (MOST_LOCATIONS < length values.now) }
         ensures callers { (result ≡ Err OpenError.TooManyCallers) ↔ ((length values.now ≤ MOST_LOCATIONS) × ((callers ≡ 0) ⊎ (MOST_CALLERS < callers))) }
     {
@@ -211,7 +211,7 @@ impl Machine {
 
 fn answer_at(seats: &mut [Seat], seat: u32, found: &Found)
     requires { seat < length seats.old }
-    ensures { (d : Seat) → seats.new ≡ set seats.old seat (answer_of (get_or seats.old seat d) found.now) }
+    ensures { (d : Seat) → seats.new ≡ set seats.old seat (seat_answered (get_or seats.old seat d) found.now) }
 {
     seats[seat as usize].answer(found);
 }

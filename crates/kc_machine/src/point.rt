@@ -9,7 +9,7 @@ ghost use Rattle.kc_model.specs.declared.footprint.Line.{Line};
 ghost use Rattle.kc_machine_steps.specs.Lines.{lines_of};
 ghost use Rattle.kc_machine_commits.specs.Commits.{commit_at, stage_access, stage_next, aids};
 ghost use Rattle.kc_machine.specs.declared.seat.Seat.{Seat};
-ghost use Rattle.kc_machine.specs.Seats.{access_of, answer_of, begun, is_idle};
+ghost use Rattle.kc_machine.specs.Seats.{access_of, seat_answered, begun, is_idle};
 
 use kc_machine_commits::Stage;
 
@@ -23,16 +23,16 @@ pub struct Point {
 
 impl Point {
     ghost use Rattle.kc_machine.specs.declared.point.Point.{Point};
-    ghost use Rattle.kc_machine.specs.Points.{seat_at, seat_next, first_point};
+    ghost use Rattle.kc_machine.specs.Points.{seat_at_point, seat_next, first_point};
 
     /// An idle seat that begins a commit stands at its first point.
     pub fn begins()
-        ensures { (s : Seat) (f : Footprint) (m : Mode) → is_idle s.work ≡ true → begun s (task.Commit f m) ≡ seat_at s m (lines_of f) (first_point s) }
+        ensures { (s : Seat) (f : Footprint) (m : Mode) → is_idle s.work ≡ true → begun s (task.Commit f m) ≡ seat_at_point s m (lines_of f) (first_point s) }
     {}
 
     /// What a seat touches at a point, and what it makes of what it finds there.
     pub fn answers()
-        ensures access { (s : Seat) (m : Mode) (xs : List Line) (p : Point) → access_of (seat_at s m xs p) ≡ stage_access s.caller p.calls (commit_at m xs p.stage) p.stage }
-        ensures answer { (s : Seat) (m : Mode) (xs : List Line) (p : Point) (f : Found) → aids p.stage ≡ false → answer_of (seat_at s m xs p) f ≡ seat_next s m xs p (stage_next s.descriptors p.calls (commit_at m xs p.stage) p.stage f) }
+        ensures access { (s : Seat) (m : Mode) (xs : List Line) (p : Point) → access_of (seat_at_point s m xs p) ≡ stage_access s.caller p.calls (commit_at m xs p.stage) p.stage }
+        ensures answer { (s : Seat) (m : Mode) (xs : List Line) (p : Point) (f : Found) → aids p.stage ≡ false → seat_answered (seat_at_point s m xs p) f ≡ seat_next s m xs p (stage_next s.descriptors p.calls (commit_at m xs p.stage) p.stage f) }
     {}
 }

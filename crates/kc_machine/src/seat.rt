@@ -2,7 +2,7 @@
 
 ghost use Rattle.std.specs.Prelude.{◌≡◌, ◌≤◌, length};
 ghost use Rattle.kc_machine_steps.specs.declared.task.Task.TheVariants as task;
-ghost use Rattle.kc_machine.specs.Seats.{fresh, access_of, answer_of, begun, halted, told_of, own_of, steps_of, is_idle, after};
+ghost use Rattle.kc_machine.specs.Seats.{fresh, access_of, seat_answered, begun, halted, last_told, own_of, steps_of, is_idle, seat_after};
 
 use crate::hang::{HangStep, LeaveStep};
 use crate::point::Point;
@@ -59,7 +59,7 @@ impl Model for Seat {
 }
 
 impl Seat {
-    ghost use Rattle.kc_machine.specs.Points.{seat_at, seat_told};
+    ghost use Rattle.kc_machine.specs.Points.{seat_at_point, seat_told};
 
     /// A seat that was never asked to do anything.
     pub fn new(caller: u32, descriptors: u32, first: u32) -> Seat
@@ -125,7 +125,7 @@ impl Seat {
 
     /// What it was told; None exactly while a task runs or none was begun.
     pub fn told(&self) -> Option<Told>
-        ensures { result ≡ told_of self.now }
+        ensures { result ≡ last_told self.now }
     {
         self.told
     }
@@ -170,7 +170,7 @@ impl Seat {
 
     /// The step, given what was found.
     pub fn answer(&mut self, found: &Found)
-        ensures { self.new ≡ answer_of self.old found.now }
+        ensures { self.new ≡ seat_answered self.old found.now }
     {
         let onward = match self.kind {
             Kind::Idle => return,
@@ -184,7 +184,7 @@ impl Seat {
     }
 
     fn go(&mut self, onward: Onward)
-        ensures { self.new ≡ after self.old onward }
+        ensures { self.new ≡ seat_after self.old onward }
     {
         self.made = one_more(self.made);
         match onward {
@@ -291,7 +291,7 @@ impl Seat {
     /// Written by who carried a commit of these lines to this point outside of the seat.
     pub fn stand_at(&mut self, mode: Mode, lines: &[Line], point: Point)
         requires { length lines.now ≤ MOST }
-        ensures { self.new ≡ seat_at self.old mode lines.now point }
+        ensures { self.new ≡ seat_at_point self.old mode lines.now point }
     {
         self.commit.stand_at(mode, lines, point.stage);
         self.kind = Kind::Commit;

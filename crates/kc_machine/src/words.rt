@@ -1,7 +1,7 @@
 //! The words that a machine's steps touch.
 
 ghost use Rattle.std.specs.Prelude.{◌≡◌, ◌<◌, ◌+◌, ◌*◌, length, Ok, Err};
-ghost use Rattle.kc_machine.specs.Words.{stored_word, stored_status, stored_owner, stored_first, stored_second, gripped, bits_after, bit_of, word_is, phase_is, status_is, word_at, awaiters_at, control_at, status_at, owner_at, first_at, second_at, with_word_at, with_awaiters_at, with_control_at, with_status_at, with_owner_at, with_first_at, with_second_at};
+ghost use Rattle.kc_machine.specs.Words.{stored_word, stored_status, stored_owner, stored_first, stored_second, gripped, bits_after, bit_of, word_is, phase_is, status_is, location_word, awaiters_at, control_at, status_at, owner_at, first_at, second_at, with_word_at, with_awaiters_at, with_control_at, with_status_at, with_owner_at, with_first_at, with_second_at};
 
 use kc_machine_words::{
     Bits, Control, First, Grip, LAST_GENERATION, Owner, Phase, Second, Status, Touch,
@@ -187,8 +187,8 @@ fn bits_after(bits: Bits, stood: u64) -> u64
 /// Touches the word of a location, and answers what stood there.
 pub fn touch_word(locations: &mut [Location], loc: u32, touch: Touch<Word>) -> Word
     requires { loc < length locations.old }
-    ensures found { result ≡ word_at locations.old loc }
-    ensures locations { locations.new ≡ with_word_at locations.old loc (stored_word touch (word_at locations.old loc)) }
+    ensures found { result ≡ location_word locations.old loc }
+    ensures locations { locations.new ≡ with_word_at locations.old loc (stored_word touch (location_word locations.old loc)) }
 {
     let location = locations[loc as usize];
     if let Some(word) = stored_word(touch, location.word) {

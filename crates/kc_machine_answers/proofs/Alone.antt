@@ -13,10 +13,10 @@ use Rattle.kc_machine_history.specs.kc_machine_steps.declared.task.Event.TheVari
 use Rattle.kc_machine_history.specs.kc_machine.declared.hang.HangStep.TheVariants as hang
 use Rattle.kc_machine_history.specs.kc_machine.Works.{Work}
 use Rattle.kc_machine_history.specs.kc_machine.Works as work
-use Rattle.kc_machine_history.specs.kc_machine.Machine.{State, put, touched, found_at, possible, event_of}
-use Rattle.kc_machine_history.specs.kc_machine.Seats.{access_of, answer_of}
+use Rattle.kc_machine_history.specs.kc_machine.Machine.{State, put_at_index, touched, found_at, possible, event_of}
+use Rattle.kc_machine_history.specs.kc_machine.Seats.{access_of, seat_answered}
 use Rattle.kc_machine_history.specs.kc_machine.declared.seat.Seat.{Seat}
-use Rattle.kc_machine_history.specs.kc_machine_invariants.Stands.{Owns, stand, works, resting, commits, owns, hangs}
+use Rattle.kc_machine_history.specs.kc_machine_invariants.Stands.{Owns, stand, works, resting, stand_commits, owns, stand_hangs}
 use Rattle.kc_machine_history.specs.kc_machine_invariants.Owners.{is_filling}
 use Rattle.kc_machine_history.specs.kc_machine_steps.Lines.{one_more}
 use Rattle.kc_machine_history.proofs.kc_machine_traces.Others.{event_in}
@@ -34,11 +34,11 @@ made s = record s { made = one_more s.made }
 module _ (m : State) (k : ℕ) (there : k < m.callers) where
   -- a step that is possible, of a seat that is known
   pub step_is : (s : Seat) → m.seats k ≡ s → possible m (access_of s) ≡ true
-      → event_of m (Step k) ≡ record m { world = touched m.world (access_of s); seats = put m.seats k (answer_of s (found_at m.world (access_of s))) }
+      → event_of m (Step k) ≡ record m { world = touched m.world (access_of s); seats = put_at_index m.seats k (seat_answered s (found_at m.world (access_of s))) }
   step_is s e p = event_in m (Step k) there ∙ ap (λ x. after x (possible m (access_of x))) e ∙ ap (after s) p
     where
       after : Seat → Bool → State
-      after x b = if b then record m { world = touched m.world (access_of x); seats = put m.seats k (answer_of x (found_at m.world (access_of x))) } else m
+      after x b = if b then record m { world = touched m.world (access_of x); seats = put_at_index m.seats k (seat_answered x (found_at m.world (access_of x))) } else m
 
 -- who stands before its start has this commit
 pub before_start : (s : Seat) (h : Handle) (i : Intent) → (stand s).own ≡ Owns h i own.Start → (b : Bool) × (a : Aided) × (s ≡ at_step s i b a h own.Start)
@@ -65,12 +65,12 @@ before_start s h i q = go s.work refl q
     owning c e (own.Signal owed) w z q = absurd (cc)
     owning c e (own.Drop p) w z q = absurd (cc)
 
-    stages : (c : Commit) (x : Stage) → s.work ≡ work.Commit c → c.stage ≡ x → (commits (record (resting s) { halted = c.halted }) c.intent c.copy x).own ≡ Owns h i own.Start → Found
+    stages : (c : Commit) (x : Stage) → s.work ≡ work.Commit c → c.stage ≡ x → (stand_commits (record (resting s) { halted = c.halted }) c.intent c.copy x).own ≡ Owns h i own.Start → Found
     stages c (Scan d worn) w z q = absurd (cc)
     stages c (Take d g) w z q = absurd (cc)
     stages c (Own e step) w z q = owning c e step w z q
 
-    waits : (reads : List Seen) (step : HangStep) → (hangs (resting s) reads step).own ≡ Owns h i own.Start → Found
+    waits : (reads : List Seen) (step : HangStep) → (stand_hangs (resting s) reads step).own ≡ Owns h i own.Start → Found
     waits reads (hang.Set j) q = absurd (cc)
     waits reads (hang.Look j step) q = absurd (cc)
     waits reads (hang.Clear j n) q = absurd (cc)

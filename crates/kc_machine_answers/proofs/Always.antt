@@ -1,6 +1,6 @@
 -- Every event leaves it so that who listens hears.
 use Rattle.kc_machine_answers.specs.kc_machine_steps.Swaps.{swaps_on, ends_at_once}
-use Rattle.kc_machine_answers.specs.kc_machine_steps.Swaps.{onward_of as onward_of_swap}
+use Rattle.kc_machine_answers.specs.kc_machine_steps.Swaps.{onward_of_swap}
 use Rattle.kc_machine_answers.specs.kc_machine_steps.declared.swap.Swap.{Swap}
 use Rattle.kc_machine_answers.specs.kc_machine_steps.declared.swap.SwapNext.{SwapNext}
 use Rattle.kc_machine_answers.specs.kc_machine_steps.declared.swap.SwapNext.TheVariants as swapping
@@ -43,11 +43,11 @@ use Rattle.kc_machine_answers.specs.kc_machine.Works as work
 use Rattle.kc_machine_answers.proofs.kc_machine.Functions.{put_here}
 use Rattle.kc_machine_answers.specs.kc_machine.Machine.{World, State, Opening, touched, found_at, event_of, seat_of, run}
 use Rattle.kc_machine_answers.specs.kc_machine.Schedules.{IsSchedule}
-use Rattle.kc_machine_answers.specs.kc_machine.Seats.{access_of, work_access, answer_of, answer_by, after, is_idle, begun, begun_idle, working, hanging, halted, halted_by, ended}
+use Rattle.kc_machine_answers.specs.kc_machine.Seats.{access_of, work_access, seat_answered, answer_by, seat_after, is_idle, begun, begun_idle, working, hanging, halted, halted_by, seat_halted}
 use Rattle.kc_machine_answers.specs.kc_machine.declared.seat.Seat.{Seat}
 use Rattle.kc_machine_answers.proofs.kc_machine_traces.Follows.{trace_runs}
 use Rattle.kc_machine_answers.specs.kc_machine_traces.Claims.{has_bit, IsAwake, WakeIsToCome}
-use Rattle.kc_machine_answers.specs.kc_machine_traces.Histories.{History, ending}
+use Rattle.kc_machine_answers.specs.kc_machine_traces.Histories.{History, ending_store}
 use Rattle.kc_machine_answers.specs.kc_machine_traces.Traces.{Moment, Shadow, Trace, now, trace, first_store, listens, blocking_after, with_task, place_after, shadow_after, begins}
 use Rattle.kc_machine_answers.specs.kc_machine_invariants.Stands.{Hangs, HangLooks, NoPass, stand}
 use Rattle.kc_machine_answers.proofs.kc_machine_history.Decisions.{history_moves}
@@ -71,7 +71,7 @@ use Rattle.kc_machine_answers.specs.Awaiting.{is_set, looks, IsRegistered, versi
 module _ (o : Opening) (since : Moment) (c : ℕ) (r : Seen) where
   -- who hears, by the machine and the history
   abbrev HearsOf : State → History → Type 0
-  HearsOf m h = IsAwake m c ⊎ ((has_bit (m.world.awaiters r.loc.0) c ≡ true) × ((v : ℕ) → version_at o since r ≤ v → v < (ending (first_store o) h r.loc.0).version → WakeIsToCome m (at_version r v)))
+  HearsOf m h = IsAwake m c ⊎ ((has_bit (m.world.awaiters r.loc.0) c ≡ true) × ((v : ℕ) → version_at o since r ≤ v → v < (ending_store (first_store o) h r.loc.0).version → WakeIsToCome m (at_version r v)))
 
 module _ (o : Opening) (es : List Event) (e : Event) (w : IsSchedule o es) where
   pub next_is : run o (es ++ e ∷ []) ≡ event_of (run o es) e
@@ -192,12 +192,12 @@ module _ (o : Opening) (es : List Event) (w : IsSchedule o es) (k : ℕ) (within
     halts_goal : Goal (Halt k) (halted s)
     halts_goal = go s.work refl
       where
-        at : (y : Work) → is_hang s.work ≡ false → is_hang y ≡ false → (b : Bool) → Goal (Halt k) (if b then ended s else record s { work = y })
-        at y a c true = calm_goal (Halt k) (ended s) a refl (λ b. b)
+        at : (y : Work) → is_hang s.work ≡ false → is_hang y ≡ false → (b : Bool) → Goal (Halt k) (if b then seat_halted s else record s { work = y })
+        at y a c true = calm_goal (Halt k) (seat_halted s) a refl (λ b. b)
         at y a c false = calm_goal (Halt k) (record s { work = y }) a c (λ b. b)
 
-        swap_or : {x : Swap} (step : SwapStep) → s.work ≡ work.Swap x → Goal (Halt k) (if ends_at_once step then ended s else s)
-        swap_or swap.Exchange q = calm_goal (Halt k) (ended s) (ap is_hang q) refl (λ b. b)
+        swap_or : {x : Swap} (step : SwapStep) → s.work ≡ work.Swap x → Goal (Halt k) (if ends_at_once step then seat_halted s else s)
+        swap_or swap.Exchange q = calm_goal (Halt k) (seat_halted s) (ap is_hang q) refl (λ b. b)
         swap_or swap.Wake q = same_goal (Halt k)
         swap_or (swap.Signal owed) q = same_goal (Halt k)
 
@@ -214,17 +214,17 @@ module _ (o : Opening) (es : List Event) (w : IsSchedule o es) (k : ℕ) (within
     abbrev Steps : Seat → Type 0
     Steps r = Goal (Step k) r
 
-    looked : is_hang s.work ≡ false → (l : Look) (b : Bool) (n : LookNext) → Steps (after (record s { work = work.Look (looks_on l n) }) (told_by b n))
+    looked : is_hang s.work ≡ false → (l : Look) (b : Bool) (n : LookNext) → Steps (seat_after (record s { work = work.Look (looks_on l n) }) (told_by b n))
     looked a l true n = calm_goal (Step k) _ a refl (λ b. b)
     looked a l false (looking.Goes step) = calm_goal (Step k) _ a refl (λ b. b)
     looked a l false (looking.Saw seen) = calm_goal (Step k) _ a refl (λ b. b)
 
-    committed : is_hang s.work ≡ false → (c : Commit) (n : Next) → TellsCalm n → Steps (after (record s { work = work.Commit (gone_on c n) }) (onward_by n))
+    committed : is_hang s.work ≡ false → (c : Commit) (n : Next) → TellsCalm n → Steps (seat_after (record s { work = work.Commit (gone_on c n) }) (onward_by n))
     committed a c (next.Goes y) f = calm_goal (Step k) _ a refl (λ b. b)
     committed a c (next.Takes y) f = calm_goal (Step k) _ a refl (λ b. b)
     committed a c (next.Tells t) f = calm_goal (Step k) _ a refl (λ b. sym (f s.blocked) ∙ b)
 
-    swapped : is_hang s.work ≡ false → (x : Swap) (n : SwapNext) → SwapTellsSo (λ t. (b : Bool) → blocked_by b t ≡ b) n → Steps (after (record s { work = work.Swap (swaps_on x n) }) (onward_of_swap n))
+    swapped : is_hang s.work ≡ false → (x : Swap) (n : SwapNext) → SwapTellsSo (λ t. (b : Bool) → blocked_by b t ≡ b) n → Steps (seat_after (record s { work = work.Swap (swaps_on x n) }) (onward_of_swap n))
     swapped a x (swapping.Goes y) f = calm_goal (Step k) _ a refl (λ b. b)
     swapped a x (swapping.Takes y) f = calm_goal (Step k) _ a refl (λ b. b)
     swapped a x (swapping.Tells t) f = calm_goal (Step k) _ a refl (λ b. sym (f s.blocked) ∙ b)
@@ -232,7 +232,7 @@ module _ (o : Opening) (es : List Event) (w : IsSchedule o es) (k : ℕ) (within
     gives_up : (r : Seat) → r.blocked ≡ false → listens_by r.work ≡ false → Steps r
     gives_up r b l f = given_up o es (es ++ Step k ∷ []) k s x.listening x.blocking old r (since r) (reads r) b l
 
-    left : (l : Leave) (j : ℕ) (v : Option Seen) → Steps (after (record s { work = work.Leave (leaves_on l j v) }) (unblocks_or_tells v))
+    left : (l : Leave) (j : ℕ) (v : Option Seen) → Steps (seat_after (record s { work = work.Leave (leaves_on l j v) }) (unblocks_or_tells v))
     left l j None = gives_up _ refl refl
     left l j (Some v) = gives_up _ refl refl
 
@@ -241,7 +241,7 @@ module _ (o : Opening) (es : List Event) (w : IsSchedule o es) (k : ℕ) (within
       unblocked = (subst (WorkIsFormed s.calls s.blocked) q (formed_always o es k)).0
 
       abbrev Then : HangNext → Seat
-      Then n = after (record s { work = work.Hang (hangs_on h n) }) (onward_of n)
+      Then n = seat_after (record s { work = work.Hang (hangs_on h n) }) (onward_of n)
 
       cleared : (c j : ℕ) (v : Option Seen) → Steps (Then (clear_or_changed c j v))
       cleared c j None = gives_up _ unblocked refl
@@ -308,14 +308,14 @@ module _ (o : Opening) (es : List Event) (w : IsSchedule o es) (k : ℕ) (within
 
             from_now : (v : Seen) → IsRegistered (run o (es ++ Step k ∷ [])) k v → Hears o (es ++ Step k ∷ []) (now (trace o es)) k v
             from_now v (inl a) = inl a
-            from_now v (inr b) = inr (b, λ n l u. let t = ap (λ y. (ending (first_store o) y v.loc.0).version) still_history in absurd (omega arith))
+            from_now v (inr b) = inr (b, λ n l u. let t = ap (λ y. (ending_store (first_store o) y v.loc.0).version) still_history in absurd (omega arith))
 
       hang_goal : (step : HangStep) → h.step ≡ step → Steps (Then (hang_next h.reads.items step (found_at m.world (access_of s))))
       hang_goal (hang.Set j) z = sets_goal j z (slice_get h.reads.items (after_line j)) refl
       hang_goal (hang.Look j step) z = looks_goal j step z (hang_next h.reads.items (hang.Look j step) (found_at m.world (access_of s)))
       hang_goal (hang.Clear j c) z = cleared c (after_line j) (slice_get h.reads.items (after_line j))
 
-    steps_goal : Steps (answer_of s (found_at m.world (access_of s)))
+    steps_goal : Steps (seat_answered s (found_at m.world (access_of s)))
     steps_goal = go s.work refl
       where
         f : Found

@@ -11,7 +11,7 @@ use Rattle.kc_machine_history.specs.kc_machine.Seats.{is_idle}
 use Rattle.kc_machine_answers.proofs.Told.{intent_asked}
 use Rattle.kc_machine_answers.specs.Asked.{BeganAt, BeginsInAll, EntriesAreOfTheTask, EntriesWereAsked, InAllItIsLegal, WasAsked}
 use Rattle.kc_machine_history.proofs.kc_machine_traces.Follows.{trace_counts}
-use Rattle.kc_machine_history.specs.kc_machine_traces.Histories.{History, IsLegalWhereInstalled, Placed, ending, entries, footprint_of, inserted, installs}
+use Rattle.kc_machine_history.specs.kc_machine_traces.Histories.{History, IsLegalWhereInstalled, Placed, ending_store, entries, footprint_of, inserted, installs}
 use Rattle.kc_machine_history.specs.kc_machine_traces.Traces.{Moment, first_store, swap_entry, trace}
 use Rattle.kc_machine_history.proofs.Begun.{entry_behind}
 use Rattle.kc_machine_history.proofs.Decisions.{history_moves}
@@ -35,7 +35,7 @@ use Rattle.kc_machine_history.proofs.kc_machine_traces.Joins.{every, made_parts}
 use Rattle.kc_machine_history.proofs.kc_machine_traces.Moments.{begun_moment}
 use Rattle.kc_machine_history.proofs.kc_machine_traces.Onward.{IsIntentOf, Left}
 use Rattle.kc_machine_history.proofs.kc_machine_traces.Others.{history_kept, run_shape}
-use Rattle.kc_machine_history.specs.kc_machine_traces.Entries.{by}
+use Rattle.kc_machine_history.specs.kc_machine_traces.Entries.{placed_by}
 use Rattle.kc_machine_history.specs.kc_machine_traces.Outcomes.{IsEntryOf}
 use Rattle.kc_machine_history.specs.kc_machine_traces.Parts.{IsNoStep}
 use Rattle.kc_machine_history.specs.kc_machine_traces.Swaps.{SwapOf}
@@ -149,7 +149,7 @@ module _ (o : Opening) where
         go : (t : Task) × (((trace o es).shadows k).task ≡ Some t) → IsOf
         go (t, q) =
             let s = (run o es).seats k in
-            let z = (subst (λ v. Left (run o es).world k s.calls t s.told v (by k ((trace o es).shadows k).begun.history) (by k (trace o es).history)) d.works ((kept o k there es w).left t q)).1 in
+            let z = (subst (λ v. Left (run o es).world k s.calls t s.told v (placed_by k ((trace o es).shadows k).begun.history) (placed_by k (trace o es).history)) d.works ((kept o k there es w).left t q)).1 in
             record {
               asked = t;
               task = subst (λ j. ((trace o es).shadows j).task ≡ Some t) (sym of) q;
@@ -225,7 +225,7 @@ abbrev InAll : Placed → Type 0
 InAll x = x.mode ≡ mode.All
 
 -- a history whose entries installed all that they read
-legal_in_all : (s : Store) (h : History) → ((x : Placed) → Contains h x → InAll x) → IsLegalWhereInstalled s h → IsLegal s (entries h) (ending s h)
+legal_in_all : (s : Store) (h : History) → ((x : Placed) → Contains h x → InAll x) → IsLegalWhereInstalled s h → IsLegal s (entries h) (ending_store s h)
 legal_in_all s [] all w = refl
 legal_in_all s (x ∷ h) all w = (finds, legal_in_all (after x.entry.footprint s) h (λ y c. all y (Contains-later x h y c)) w.1)
   where

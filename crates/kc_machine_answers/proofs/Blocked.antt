@@ -1,6 +1,6 @@
 -- Blocked callers are covered.
 use Rattle.kc_machine_answers.specs.kc_machine_steps.Swaps.{swaps_on, ends_at_once}
-use Rattle.kc_machine_answers.specs.kc_machine_steps.Swaps.{onward_of as onward_of_swap}
+use Rattle.kc_machine_answers.specs.kc_machine_steps.Swaps.{onward_of_swap}
 use Rattle.kc_machine_answers.specs.kc_machine_steps.declared.swap.Swap.{Swap}
 use Rattle.kc_machine_answers.specs.kc_machine_steps.declared.swap.SwapNext.{SwapNext}
 use Rattle.kc_machine_answers.specs.kc_machine_steps.declared.swap.SwapNext.TheVariants as swapping
@@ -35,10 +35,10 @@ use Rattle.kc_machine_answers.specs.kc_machine_steps.Looks.{looks_on, told_by, h
 use Rattle.kc_machine_answers.specs.kc_machine.Works as work
 use Rattle.kc_machine_answers.specs.kc_machine.Machine.{State, Opening, found_at, event_of, seat_of, run}
 use Rattle.kc_machine_answers.specs.kc_machine.Schedules.{IsSchedule}
-use Rattle.kc_machine_answers.specs.kc_machine.Seats.{access_of, answer_of, answer_by, after, is_idle, begun, begun_idle, working, hanging, halted, halted_by, ended}
+use Rattle.kc_machine_answers.specs.kc_machine.Seats.{access_of, seat_answered, answer_by, seat_after, is_idle, begun, begun_idle, working, hanging, halted, halted_by, seat_halted}
 use Rattle.kc_machine_answers.specs.kc_machine.declared.seat.Seat.{Seat}
 use Rattle.kc_machine_answers.specs.kc_machine_traces.Claims.{IsAwake, IsCovered, StandsAt, WakeIsToCome, BlockedAreCovered, history_at}
-use Rattle.kc_machine_answers.specs.kc_machine_traces.Histories.{ending}
+use Rattle.kc_machine_answers.specs.kc_machine_traces.Histories.{ending_store}
 use Rattle.kc_machine_answers.specs.kc_machine_traces.Traces.{Moment, Shadow, now, trace, first_store, listens, blocking_after}
 use Rattle.kc_machine_answers.specs.kc_machine_invariants.Stands.{Waiting, stand}
 use Rattle.kc_machine_answers.proofs.kc_machine_history.Growing.{histories_grow_between}
@@ -85,11 +85,11 @@ module _ (m : State) (k : ℕ) where
   halts_was : Was (halted s)
   halts_was = go s.work
     where
-      at : (y : Work) (b : Bool) → Was (if b then ended s else record s { work = y })
+      at : (y : Work) (b : Bool) → Was (if b then seat_halted s else record s { work = y })
       at y true = inl
       at y false = inl
 
-      swap_or : (b : Bool) → Was (if b then ended s else s)
+      swap_or : (b : Bool) → Was (if b then seat_halted s else s)
       swap_or true = inl
       swap_or false = inl
 
@@ -101,20 +101,20 @@ module _ (m : State) (k : ℕ) where
       go (work.Leave l) = inl
       go (work.Swap x) = swap_or (ends_at_once x.step)
 
-  steps_was : (f : Found) → Was (answer_of s f)
+  steps_was : (f : Found) → Was (seat_answered s f)
   steps_was f = go s.work
     where
-      looked : (l : Look) (b : Bool) (n : LookNext) → Was (after (record s { work = work.Look (looks_on l n) }) (told_by b n))
+      looked : (l : Look) (b : Bool) (n : LookNext) → Was (seat_after (record s { work = work.Look (looks_on l n) }) (told_by b n))
       looked l true n = inl
       looked l false (looking.Goes step) = inl
       looked l false (looking.Saw seen) = inl
 
-      committed : (c : Commit) (n : Next) → TellsCalm n → Was (after (record s { work = work.Commit (gone_on c n) }) (onward_by n))
+      committed : (c : Commit) (n : Next) → TellsCalm n → Was (seat_after (record s { work = work.Commit (gone_on c n) }) (onward_by n))
       committed c (next.Goes y) t = inl
       committed c (next.Takes y) t = inl
       committed c (next.Tells u) t = λ b. inl (sym (t s.blocked) ∙ b)
 
-      hung : (h : Hang) (n : HangNext) → Was (after (record s { work = work.Hang (hangs_on h n) }) (onward_of n))
+      hung : (h : Hang) (n : HangNext) → Was (seat_after (record s { work = work.Hang (hangs_on h n) }) (onward_of n))
       hung h (Goes step) = inl
       hung h (Tells told.Hung) = λ b. inr refl
       hung h (Tells told.Free) = λ b. absurd (cc)
@@ -126,11 +126,11 @@ module _ (m : State) (k : ℕ) where
       hung h (Tells told.Worn) = inl
       hung h (Tells (told.Changed i)) = inl
 
-      left : (l : Leave) (j : ℕ) (v : Option Seen) → Was (after (record s { work = work.Leave (leaves_on l j v) }) (unblocks_or_tells v))
+      left : (l : Leave) (j : ℕ) (v : Option Seen) → Was (seat_after (record s { work = work.Leave (leaves_on l j v) }) (unblocks_or_tells v))
       left l j None = λ b. absurd (cc)
       left l j (Some v) = λ b. absurd (cc)
 
-      swapped : (x : Swap) (n : SwapNext) → SwapTellsSo (λ t. (b : Bool) → blocked_by b t ≡ b) n → Was (after (record s { work = work.Swap (swaps_on x n) }) (onward_of_swap n))
+      swapped : (x : Swap) (n : SwapNext) → SwapTellsSo (λ t. (b : Bool) → blocked_by b t ≡ b) n → Was (seat_after (record s { work = work.Swap (swaps_on x n) }) (onward_of_swap n))
       swapped x (swapping.Goes step) t = inl
       swapped x (swapping.Takes step) t = inl
       swapped x (swapping.Tells u) t = λ b. inl (sym (t s.blocked) ∙ b)
@@ -166,10 +166,10 @@ module _ (o : Opening) (es : List Event) (w : IsSchedule o es) (k : ℕ) (within
       let m = ((trace o es).shadows k).listening in
       let f = hung_stood o es w k r within q c in
       let i = f.0 in
-      let version = λ (n : ℕ). (ending (first_store o) (history_at o es n) r.loc.0).version in
+      let version = λ (n : ℕ). (ending_store (first_store o) (history_at o es n) r.loc.0).version in
       let a = versions_rise (first_store o) (history_at o es m.clock) (history_at o es i) r.loc.0 (histories_grow_between o es (along o es w) m.clock i (let l = f.1 in omega arith)) in
       let b = versions_rise (first_store o) (history_at o es i) (trace o es).history r.loc.0 (grow o es w i) in
-      let z = ap (λ h. (ending (first_store o) h r.loc.0).version) (listening_moment o es k).history in
+      let z = ap (λ h. (ending_store (first_store o) h r.loc.0).version) (listening_moment o es k).history in
       let y = f.3 in
       (omega arith, omega arith)
 

@@ -45,10 +45,10 @@ use Rattle.kc_machine_answers.specs.kc_machine_steps.Lines.{next_line, after_lin
 use Rattle.kc_machine_answers.specs.kc_machine_steps.declared.line.Pick.TheVariants.{Put}
 use Rattle.kc_machine_answers.specs.kc_machine.Works as work
 use Rattle.kc_machine_answers.proofs.kc_machine.Functions.{put_cases, put_else, put_here}
-use Rattle.kc_machine_answers.specs.kc_machine.Machine.{World, State, Opening, put, event_of, seat_of, run}
+use Rattle.kc_machine_answers.specs.kc_machine.Machine.{World, State, Opening, put_at_index, event_of, seat_of, run}
 use Rattle.kc_machine_answers.specs.kc_machine.Schedules.{IsSchedule}
 use Rattle.kc_machine_answers.specs.kc_machine_traces.Claims.{has_bit, owed_by, IsAwake, still_wakes, OwnsSucceeded, WakeIsToCome}
-use Rattle.kc_machine_answers.specs.kc_machine_traces.Histories.{History, Placed, ending, cell_of, inserted, installs}
+use Rattle.kc_machine_answers.specs.kc_machine_traces.Histories.{History, Placed, ending_store, seen_as_cell, inserted, installs}
 use Rattle.kc_machine_answers.specs.kc_machine_traces.Traces.{Moment, now, trace, first_store}
 use Rattle.kc_machine_answers.proofs.kc_machine_invariants.PoolLaws.{holds_kept}
 use Rattle.kc_machine_answers.specs.kc_machine_invariants.Holds.{Proper, own_hold}
@@ -57,7 +57,7 @@ use Rattle.kc_machine_answers.proofs.kc_machine_history.Decisions.{history_moves
 use Rattle.kc_machine_answers.proofs.kc_machine_history.Filters.{got}
 use Rattle.kc_machine_answers.proofs.kc_machine_history.Growing.{LineThatPuts, line_that_puts}
 use Rattle.kc_machine_answers.specs.kc_machine_history.Decisions.{Decision}
-use Rattle.kc_machine_answers.specs.kc_machine_history.Insertions.{put_by}
+use Rattle.kc_machine_answers.specs.kc_machine_history.Insertions.{put_by_entry}
 use Rattle.kc_machine_answers.proofs.kc_machine_traces.Holders.{same_handle}
 use Rattle.kc_machine_answers.proofs.kc_machine_invariants.LifeLaws.{statuses_follow, active_owned, owners_differ, phase_known}
 use Rattle.kc_machine_answers.specs.kc_machine_invariants.Owners.{Follows, is_filling, Undecided, phase_read}
@@ -193,7 +193,7 @@ module _ (o : Opening) (es : List Event) (e : Event) (w : IsSchedule o es) (insi
             go (signalled_or_owed c small owed (subst (λ x. owed_by x < 2 ^ 64) u fits) z)
           where
             go : (c ≡ count_trailing_zeros 64 owed) ⊎ (has_bit (bit_and owed (owed - 1)) c ≡ true) → IsAwake n c
-            go (inl z) = inl (ap (λ f. f c) q ∙ ap (put m.world.signal _ true) z ∙ put_here m.world.signal _ true)
+            go (inl z) = inl (ap (λ f. f c) q ∙ ap (put_at_index m.world.signal _ true) z ∙ put_here m.world.signal _ true)
             go (inr z) = by_seat (subst (λ x. has_bit (owed_by x) c ≡ true) (sym y) (next_owed h i c _ z))
 
     -- likewise by a swap
@@ -233,7 +233,7 @@ module _ (o : Opening) (es : List Event) (e : Event) (w : IsSchedule o es) (insi
         by (swap_signals x v owed u t a q y) = go (signalled_or_owed c small owed (subst (λ x. owed_by_swap x < 2 ^ 64) t fits_swap) (subst (λ x. has_bit (owed_by_swap x) c ≡ true) t b))
           where
             go : (c ≡ count_trailing_zeros 64 owed) ⊎ (has_bit (bit_and owed (owed - 1)) c ≡ true) → IsAwake n c
-            go (inl z) = inl (ap (λ f. f c) q ∙ ap (put m.world.signal _ true) z ∙ put_here m.world.signal _ true)
+            go (inl z) = inl (ap (λ f. f c) q ∙ ap (put_at_index m.world.signal _ true) z ∙ put_here m.world.signal _ true)
             go (inr z) = by_swap (subst (λ n. has_bit n c ≡ true) (sym y) z)
 
     pub awake_on : IsAwake m c → IsAwake n c
@@ -387,7 +387,7 @@ module _ (o : Opening) (es : List Event) (e : Event) (w : IsSchedule o es) (insi
             go l le f true r =
                 let same : ◌≡◌ {A = Option Line} (Some y) (Some x) = sym g ∙ ap (slice_get i.lines.items) (sym (eqb-true l k r)) ∙ f in
                 let at : y ≡ x = cc in
-                let none : has_bit 0 c ≡ true = subst (λ y. has_bit y c ≡ true) (ap (λ f. f x.seen.loc.0) b ∙ ap (λ (y : Line). put m.world.awaiters y.seen.loc.0 0 x.seen.loc.0) at ∙ put_here m.world.awaiters x.seen.loc.0 0) bit in
+                let none : has_bit 0 c ≡ true = subst (λ y. has_bit y c ≡ true) (ap (λ f. f x.seen.loc.0) b ∙ ap (λ (y : Line). put_at_index m.world.awaiters y.seen.loc.0 0 x.seen.loc.0) at ∙ put_here m.world.awaiters x.seen.loc.0 0) bit in
                 absurd (no_bit_of_none c none)
             go l le f false r = let ne = eqb-false l k r in wake_owes h i (few i (ap own_intent u)) x puts (bit_or owed (m.world.awaiters y.seen.loc.0)) k l (omega arith) f
 
@@ -444,7 +444,7 @@ module _ (o : Opening) (es : List Event) (e : Event) (w : IsSchedule o es) (insi
               let i : Swaps x v swap.Wake ≡ Swaps y b swap.Wake = sym was_swap ∙ t in
               let same : x ≡ y = cc in
               let there : y.loc.0 ≡ r.loc.0 = ap (λ (s : Seen). s.loc.0) (sym same) ∙ ap (λ (l : Loc). l.0) loc in
-              let none : n.world.awaiters r.loc.0 ≡ 0 = ap (λ f. f r.loc.0) d ∙ ap (put m.world.awaiters y.loc.0 0) (sym there) ∙ put_here m.world.awaiters y.loc.0 0 in
+              let none : n.world.awaiters r.loc.0 ≡ 0 = ap (λ f. f r.loc.0) d ∙ ap (put_at_index m.world.awaiters y.loc.0 0) (sym there) ∙ put_here m.world.awaiters y.loc.0 0 in
               absurd (no_bit_of_none c (subst (λ n. has_bit n c ≡ true) none bit))
 
   coming_on : (c : ℕ) (r : Seen) → has_bit (n.world.awaiters r.loc.0) c ≡ true → WakeIsToCome m r → WakeIsToCome n r
@@ -453,14 +453,14 @@ module _ (o : Opening) (es : List Event) (e : Event) (w : IsSchedule o es) (insi
 
   -- a swap's wake is to come
   module _ (x : Placed) (d : SwapOf m e (length es) x) where
-    swap_put_comes : (r : Seen) → is_some (put_by x r.loc.0) ≡ true → WakeIsToCome n (at_version r (ending (first_store o) (trace o es).history r.loc.0).version)
+    swap_put_comes : (r : Seen) → is_some (put_by_entry x r.loc.0) ≡ true → WakeIsToCome n (at_version r (ending_store (first_store o) (trace o es).history r.loc.0).version)
     swap_put_comes r puts = inr (j, d.seen, d.after, (let q = callers' in omega arith), wakes_then, loc, version)
       where
         wakes_then : (stand (n.seats j)).swap ≡ Swaps d.seen d.after swap.Wake
         wakes_then = ap (λ (s : Seat). (stand s).swap) (seat_behind m e (length es) x d)
 
         y : LineThatPuts (swap_line d.seen d.after ∷ []) r.loc.0
-        y = line_that_puts (swap_line d.seen d.after ∷ []) r.loc.0 (sym (ap (λ (t : Placed). is_some (put_by t r.loc.0)) d.is) ∙ puts)
+        y = line_that_puts (swap_line d.seen d.after ∷ []) r.loc.0 (sym (ap (λ (t : Placed). is_some (put_by_entry t r.loc.0)) d.is) ∙ puts)
 
         line : y.line ≡ swap_line d.seen d.after
         line = sole y.among
@@ -475,8 +475,8 @@ module _ (o : Opening) (es : List Event) (e : Event) (w : IsSchedule o es) (insi
         loc : d.seen.loc ≡ r.loc
         loc = λ i. record { 0 = at i }
 
-        version : d.seen.version ≡ (ending (first_store o) (trace o es).history r.loc.0).version
-        version = ap (λ (z : Cell). z.version) (sym (swap_found o es e w x d)) ∙ ap (λ l. (ending (first_store o) (trace o es).history l).version) at
+        version : d.seen.version ≡ (ending_store (first_store o) (trace o es).history r.loc.0).version
+        version = ap (λ (z : Cell). z.version) (sym (swap_found o es e w x d)) ∙ ap (λ l. (ending_store (first_store o) (trace o es).history l).version) at
 
   -- ---- what is put has its wake to come
 
@@ -512,21 +512,21 @@ module _ (o : Opening) (es : List Event) (e : Event) (w : IsSchedule o es) (insi
     installed_put All f l q = refl
     installed_put Light f l q = q
 
-    put_comes : (c : ℕ) (r : Seen) → has_bit (n.world.awaiters r.loc.0) c ≡ true → is_some (put_by x r.loc.0) ≡ true → WakeIsToCome n (at_version r (ending (first_store o) (trace o es).history r.loc.0).version)
+    put_comes : (c : ℕ) (r : Seen) → has_bit (n.world.awaiters r.loc.0) c ≡ true → is_some (put_by_entry x r.loc.0) ≡ true → WakeIsToCome n (at_version r (ending_store (first_store o) (trace o es).history r.loc.0).version)
     put_comes c r bit puts = inl (go (owner == j) refl)
       where
         v : ℕ
-        v = (ending (first_store o) (trace o es).history r.loc.0).version
+        v = (ending_store (first_store o) (trace o es).history r.loc.0).version
 
         y : LineThatPuts d.lines r.loc.0
         y = line_that_puts d.lines r.loc.0 (sym (ap (λ (g : Footprint). is_some (put_at g.puts.items r.loc.0)) d.footprint) ∙ puts)
 
-        found_so : ending (first_store o) (trace o es).history y.line.seen.loc.0 ≡ cell_of y.line.seen
+        found_so : ending_store (first_store o) (trace o es).history y.line.seen.loc.0 ≡ seen_as_cell y.line.seen
         found_so = decision_finds o es e w x d y.line.seen (subst (λ g. Reads g y.line.seen) (sym d.footprint) (reads_line d.lines y.line y.among))
-            (installed_put x.mode x.entry.footprint y.line.seen.loc.0 (subst (λ l. is_some (put_by x l) ≡ true) (sym y.at) puts))
+            (installed_put x.mode x.entry.footprint y.line.seen.loc.0 (subst (λ l. is_some (put_by_entry x l) ≡ true) (sym y.at) puts))
 
         version : y.line.seen.version ≡ v
-        version = ap (λ (z : Cell). z.version) (sym found_so) ∙ ap (λ l. (ending (first_store o) (trace o es).history l).version) y.at
+        version = ap (λ (z : Cell). z.version) (sym found_so) ∙ ap (λ l. (ending_store (first_store o) (trace o es).history l).version) y.at
 
         loc : y.line.seen.loc ≡ r.loc
         loc = λ i. record { 0 = y.at i }
@@ -558,35 +558,35 @@ module _ (o : Opening) (es : List Event) (e : Event) (w : IsSchedule o es) (insi
 
   module _ (since : Moment) (c : ℕ) (r : Seen) (within : c < o.callers) (listens : c ≡ j → IsDeaf (n.seats j) → ⊥) where
     abbrev PutsCome : History → Type 0
-    PutsCome h = (v : ℕ) → version_at o since r ≤ v → v < (ending (first_store o) h r.loc.0).version → WakeIsToCome n (at_version r v)
+    PutsCome h = (v : ℕ) → version_at o since r ≤ v → v < (ending_store (first_store o) h r.loc.0).version → WakeIsToCome n (at_version r v)
 
     come : has_bit (n.world.awaiters r.loc.0) c ≡ true → ((v : ℕ) → version_at o since r ≤ v → v < version_at o (now (trace o es)) r → WakeIsToCome m (at_version r v)) → PutsCome (trace o es').history
-    come bit f = history_moves o es e PutsCome (λ v a b. coming_on c (at_version r v) bit (f v a b)) (λ x d v a b. more x d (put_by x r.loc.0) refl v a b) (λ x d v a b. swap_more x d (put_by x r.loc.0) refl v a b)
+    come bit f = history_moves o es e PutsCome (λ v a b. coming_on c (at_version r v) bit (f v a b)) (λ x d v a b. more x d (put_by_entry x r.loc.0) refl v a b) (λ x d v a b. swap_more x d (put_by_entry x r.loc.0) refl v a b)
       where
-        swap_more : (x : Placed) → SwapOf m e (length es) x → (p : Option footprint.Put) → put_by x r.loc.0 ≡ p → PutsCome (inserted x (trace o es).history)
+        swap_more : (x : Placed) → SwapOf m e (length es) x → (p : Option footprint.Put) → put_by_entry x r.loc.0 ≡ p → PutsCome (inserted x (trace o es).history)
         swap_more x d None q v a b =
-            let z = ap (λ (y : Cell). y.version) (swap_makes o es e w x d r.loc.0 ∙ ap (λ p. cell_after p (ending (first_store o) (trace o es).history r.loc.0)) q) in
+            let z = ap (λ (y : Cell). y.version) (swap_makes o es e w x d r.loc.0 ∙ ap (λ p. cell_after p (ending_store (first_store o) (trace o es).history r.loc.0)) q) in
             coming_on c (at_version r v) bit (f v a (omega arith))
-        swap_more x d (Some p) q v a b = go (v == (ending (first_store o) (trace o es).history r.loc.0).version) refl
+        swap_more x d (Some p) q v a b = go (v == (ending_store (first_store o) (trace o es).history r.loc.0).version) refl
           where
-            go : (t : Bool) → (v == (ending (first_store o) (trace o es).history r.loc.0).version) ≡ t → WakeIsToCome n (at_version r v)
+            go : (t : Bool) → (v == (ending_store (first_store o) (trace o es).history r.loc.0).version) ≡ t → WakeIsToCome n (at_version r v)
             go true y = subst (λ v. WakeIsToCome n (at_version r v)) (sym (eqb-true v _ y)) (swap_put_comes x d r (ap is_some q))
             go false y =
-                let ne = eqb-false v (ending (first_store o) (trace o es).history r.loc.0).version y in
-                let z = ap (λ (y : Cell). y.version) (swap_makes o es e w x d r.loc.0 ∙ ap (λ p. cell_after p (ending (first_store o) (trace o es).history r.loc.0)) q) in
+                let ne = eqb-false v (ending_store (first_store o) (trace o es).history r.loc.0).version y in
+                let z = ap (λ (y : Cell). y.version) (swap_makes o es e w x d r.loc.0 ∙ ap (λ p. cell_after p (ending_store (first_store o) (trace o es).history r.loc.0)) q) in
                 coming_on c (at_version r v) bit (f v a (omega arith))
 
-        more : (x : Placed) → Decision o es e x → (p : Option footprint.Put) → put_by x r.loc.0 ≡ p → PutsCome (inserted x (trace o es).history)
+        more : (x : Placed) → Decision o es e x → (p : Option footprint.Put) → put_by_entry x r.loc.0 ≡ p → PutsCome (inserted x (trace o es).history)
         more x d None q v a b =
-            let z = ap (λ (y : Cell). y.version) (decision_makes o es e w x d r.loc.0 ∙ ap (λ p. cell_after p (ending (first_store o) (trace o es).history r.loc.0)) q) in
+            let z = ap (λ (y : Cell). y.version) (decision_makes o es e w x d r.loc.0 ∙ ap (λ p. cell_after p (ending_store (first_store o) (trace o es).history r.loc.0)) q) in
             coming_on c (at_version r v) bit (f v a (omega arith))
-        more x d (Some p) q v a b = go (v == (ending (first_store o) (trace o es).history r.loc.0).version) refl
+        more x d (Some p) q v a b = go (v == (ending_store (first_store o) (trace o es).history r.loc.0).version) refl
           where
-            go : (t : Bool) → (v == (ending (first_store o) (trace o es).history r.loc.0).version) ≡ t → WakeIsToCome n (at_version r v)
+            go : (t : Bool) → (v == (ending_store (first_store o) (trace o es).history r.loc.0).version) ≡ t → WakeIsToCome n (at_version r v)
             go true y = subst (λ v. WakeIsToCome n (at_version r v)) (sym (eqb-true v _ y)) (put_comes x d c r bit (ap is_some q))
             go false y =
-                let ne = eqb-false v (ending (first_store o) (trace o es).history r.loc.0).version y in
-                let z = ap (λ (y : Cell). y.version) (decision_makes o es e w x d r.loc.0 ∙ ap (λ p. cell_after p (ending (first_store o) (trace o es).history r.loc.0)) q) in
+                let ne = eqb-false v (ending_store (first_store o) (trace o es).history r.loc.0).version y in
+                let z = ap (λ (y : Cell). y.version) (decision_makes o es e w x d r.loc.0 ∙ ap (λ p. cell_after p (ending_store (first_store o) (trace o es).history r.loc.0)) q) in
                 coming_on c (at_version r v) bit (f v a (omega arith))
 
     abbrev HearsAt : State → Type 0

@@ -14,8 +14,8 @@ use Rattle.kc_machine_history.specs.kc_machine_invariants.Stands.{Turn, At, Meet
 use Rattle.kc_machine_history.proofs.Calls.{own_goes}
 use Rattle.kc_machine_history.proofs.Passes.{HoldsLife, pass_holds, begun_fresh}
 use Rattle.kc_machine_history.proofs.Successes.{Stays, Starts, moves}
-use Rattle.kc_machine_history.specs.Decisions.{own_of}
-use Rattle.kc_machine_history.specs.Places.{began, pass_of}
+use Rattle.kc_machine_history.specs.Decisions.{seat_own}
+use Rattle.kc_machine_history.specs.Places.{began, seat_pass}
 use Rattle.kc_machine_history.proofs.kc_machine_invariants.LifeLaws.{statuses_follow, held_started}
 use Rattle.kc_machine_history.specs.kc_machine_invariants.Owners.{Follows, OwnsLife, is_filling}
 use Rattle.kc_machine_history.proofs.kc_machine_invariants.FitSeats.{fit_always}
@@ -45,10 +45,10 @@ module _ (o : Opening) (es : List Event) (e : Event) where
 
   -- ---- an owner that has started is no new one
 
-  module _ (k : ℕ) (l : k < o.callers) (d g : ℕ) (level : ((run o es).world.status d).generation ≡ g) (owns : OwnsLife (run o es') k d g) (started : is_filling (own_of o es' k) ≡ false) where
+  module _ (k : ℕ) (l : k < o.callers) (d g : ℕ) (level : ((run o es).world.status d).generation ≡ g) (owns : OwnsLife (run o es') k d g) (started : is_filling (seat_own o es' k) ≡ false) where
     pub record Before : Type 0 where
       pub owned : OwnsLife (run o es) k d g
-      pub begun_so : is_filling (own_of o es k) ≡ false
+      pub begun_so : is_filling (seat_own o es k) ≡ false
       pub stays : Stays o es e k l
 
     no_start : Starts o es e k l → ⊥
@@ -68,7 +68,7 @@ module _ (o : Opening) (es : List Event) (e : Event) where
         now_started : is_filling (stand ((event_of (run o es) e).seats k)).own ≡ false
         now_started = ap (λ s. is_filling (stand s).own) (sym (seats_on k)) ∙ started
 
-        fill : OwnsLife (run o es) k d g → (b : Bool) → is_filling (own_of o es k) ≡ b → is_filling (own_of o es k) ≡ false
+        fill : OwnsLife (run o es) k d g → (b : Bool) → is_filling (seat_own o es k) ≡ b → is_filling (seat_own o es k) ≡ false
         fill own true q = let a = subst (λ b. Follows b ((run o es).world.status d).generation g) q (statuses_follow o es k d g (there k l) own) in absurd (omega (arith, a, level))
         fill own false q = q
 
@@ -78,7 +78,7 @@ module _ (o : Opening) (es : List Event) (e : Event) where
 
         go : ((own_hold (stand ((run o es).seats k)).own ≡ Proper d g) × (((event_of (run o es) e).seats k).calls ≡ ((run o es).seats k).calls) × (is_filling (stand ((event_of (run o es) e).seats k)).own ≡ true → is_filling (stand ((run o es).seats k)).own ≡ true))
             ⊎ ((own_hold (stand ((run o es).seats k)).own ≡ NoHold) × (((event_of (run o es) e).seats k).calls ≡ one_more ((run o es).seats k).calls) × (is_filling (stand ((event_of (run o es) e).seats k)).own ≡ true)) → Stays o es e k l ⊎ Starts o es e k l → Before
-        go (inl z) y = record { owned = z.0; begun_so = fill z.0 (is_filling (own_of o es k)) refl; stays = stay y }
+        go (inl z) y = record { owned = z.0; begun_so = fill z.0 (is_filling (seat_own o es k)) refl; stays = stay y }
         go (inr z) y = let a : true ≡ false = sym z.2 ∙ now_started in absurd (cc)
 
   -- ---- what was crossed stays so
@@ -99,7 +99,7 @@ module _ (o : Opening) (es : List Event) (e : Event) where
   )
 
   -- the pass's life is held, so its status is at its generation
-  pass_level : (j : ℕ) (h : Handle) (m : Mode) (xs : List Line) (t : Turn) → j < o.callers → pass_of o es j ≡ Over h m xs t → ((run o es).world.status h.descriptor).generation ≡ h.generation
+  pass_level : (j : ℕ) (h : Handle) (m : Mode) (xs : List Line) (t : Turn) → j < o.callers → seat_pass o es j ≡ Over h m xs t → ((run o es).world.status h.descriptor).generation ≡ h.generation
   pass_level j h m xs t l q =
       let f : HoldsLife (Over h m xs t) (stand ((run o es).seats j)) = subst (λ p. HoldsLife p (stand ((run o es).seats j))) q (pass_holds ((run o es).seats j)) in
       held_started o es j h.descriptor h.generation (there j l) f.0 f.1
@@ -116,10 +116,10 @@ module _ (o : Opening) (es : List Event) (e : Event) where
     abbrev G : Handle → Mode → List Line → ℕ → Type 0
     G h m xs i = WasCrossed o es' h m xs i
 
-    known : (j : ℕ) → j < o.callers → PassCrosses G (run o es).world (pass_of o es j)
-    known j l = go (pass_of o es j) refl
+    known : (j : ℕ) → j < o.callers → PassCrosses G (run o es).world (seat_pass o es j)
+    known j l = go (seat_pass o es j) refl
       where
-        go : (x : Passing) → pass_of o es j ≡ x → PassCrosses G (run o es).world x
+        go : (x : Passing) → seat_pass o es j ≡ x → PassCrosses G (run o es).world x
         go NoPass q = tt
         go (Over h m xs (At t)) q = λ i z. inl (crossed_on h m xs i (pass_level j h m xs (At t) l q) (old j i h m xs t l q z))
         go (Over h m xs (Meets i r)) q = tt
@@ -135,11 +135,11 @@ module _ (o : Opening) (es : List Event) (e : Event) where
 
         go : (b : Bool) → (j == seat_of e) ≡ b → WasCrossed o es' h m xs i
         go false y =
-            let same : pass_of o es j ≡ Over h m xs (At q) = ap (λ s. (stand s).pass) (sym (event_else (run o es) e j (λ w. eqb-false j (seat_of e) y (sym w))) ∙ sym (seats_on j)) ∙ over in
+            let same : seat_pass o es j ≡ Over h m xs (At q) = ap (λ s. (stand s).pass) (sym (event_else (run o es) e j (λ w. eqb-false j (seat_of e) y (sym w))) ∙ sym (seats_on j)) ∙ over in
             crossed_on h m xs i (pass_level j h m xs (At q) l same) (old j i h m xs q l same z)
         go true y =
             let w = eqb-true j (seat_of e) y in
-            let c = event_crosses G (run o es) e (λ k. (fit_always o es k, formed_always o es k)) (standing o es) (subst (λ k. PassCrosses G (run o es).world (pass_of o es k)) w (known j l)) in
+            let c = event_crosses G (run o es) e (λ k. (fit_always o es k, formed_always o es k)) (standing o es) (subst (λ k. PassCrosses G (run o es).world (seat_pass o es k)) w (known j l)) in
             let d = subst (λ k. PassCrosses G (event_of (run o es) e).world (stand ((event_of (run o es) e).seats k)).pass) (sym w) c in
             let f = subst (λ (n : State). PassCrosses G n.world (stand (n.seats j)).pass) (sym (run-append o es (e ∷ []))) d in
             seen (subst (PassCrosses G (run o es').world) over f i z)

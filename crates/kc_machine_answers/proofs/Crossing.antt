@@ -16,8 +16,8 @@ use Rattle.kc_machine_history.specs.kc_machine_words.declared.words.Status.{Stat
 use Rattle.kc_machine_history.specs.kc_machine_steps.declared.pass.AfterCheck.TheVariants as checked
 use Rattle.kc_machine_history.specs.kc_machine_steps.declared.aid.AidStep.TheVariants as aid
 use Rattle.kc_machine_history.proofs.kc_machine.Functions.{put_here}
-use Rattle.kc_machine_history.specs.kc_machine.Machine.{World, State, put, touched, found_at, possible, happened, event_of, seat_of}
-use Rattle.kc_machine_history.specs.kc_machine.Seats.{access_of, answer_of, begun, halted}
+use Rattle.kc_machine_history.specs.kc_machine.Machine.{World, State, put_at_index, touched, found_at, possible, happened, event_of, seat_of}
+use Rattle.kc_machine_history.specs.kc_machine.Seats.{access_of, seat_answered, begun, halted}
 use Rattle.kc_machine_history.specs.kc_machine.declared.seat.Seat.{Seat}
 use Rattle.kc_machine_answers.proofs.Standing.{Standing, keep, standing_effect}
 use Rattle.kc_machine_answers.specs.Crosses.{crosses, IsCrossed}
@@ -197,7 +197,7 @@ module _ (G : Handle → Mode → List Line → ℕ → Type 0) where
     path_crosses stay at q f c = c
     path_crosses (onward {w} {v = u} {t = t} e x) at q f c =
         let e' = subst (λ s. Effects.Effect k w s u t) (sym q) e in
-        path_crosses x (put at k t) (put_here at k t) (standing_effect n m k l at e' f)
+        path_crosses x (put_at_index at k t) (put_here at k t) (standing_effect n m k l at e' f)
         (crosses_own k e' (level w at f) (stays w u at t e' f) (f.stands k l) (subst (λ (s : Stand). PassCrosses w s.pass) (sym q) c))
       where
         level : (w : World) (at : ℕ → Stand) → Standing n m w at → Level w (at k)
@@ -223,11 +223,11 @@ module _ (G : Handle → Mode → List Line → ℕ → Type 0) where
       → PassCrosses m.world (stand (m.seats (seat_of e))).pass → PassCrosses (event_of m e).world (stand ((event_of m e).seats (seat_of e))).pass
   event_crosses m e fit st c = go (nat_lt (seat_of e) m.callers) refl
     where
-      by : (k : ℕ) (w : World) (s : Seat) → k < m.callers → Path k m.world (stand (m.seats k)) w (stand s) → PassCrosses m.world (stand (m.seats k)).pass → PassCrosses w (stand (put m.seats k s k)).pass
+      by : (k : ℕ) (w : World) (s : Seat) → k < m.callers → Path k m.world (stand (m.seats k)) w (stand s) → PassCrosses m.world (stand (m.seats k)).pass → PassCrosses w (stand (put_at_index m.seats k s k)).pass
       by k w s l p c = subst (λ x. PassCrosses w (stand x).pass) (sym (put_here m.seats k s)) (path_crosses m.callers m.descriptors k l p (λ j. stand (m.seats j)) refl st c)
 
       stepped_by : ℕ → Bool → State
-      stepped_by k b = if b then record m { world = touched m.world (access_of (m.seats k)); seats = put m.seats k (answer_of (m.seats k) (found_at m.world (access_of (m.seats k)))) } else m
+      stepped_by k b = if b then record m { world = touched m.world (access_of (m.seats k)); seats = put_at_index m.seats k (seat_answered (m.seats k) (found_at m.world (access_of (m.seats k)))) } else m
 
       step : (k : ℕ) → k < m.callers → PassCrosses m.world (stand (m.seats k)).pass → (b : Bool) → possible m (access_of (m.seats k)) ≡ b → PassCrosses (stepped_by k b).world (stand ((stepped_by k b).seats k)).pass
       step k l c true q = by k _ _ l (step_path k m (m.seats k) (fit k) q) c

@@ -42,8 +42,8 @@ use Rattle.kc_machine_history.specs.kc_machine.Hangs.{hang_access_of, leave_acce
 use Rattle.kc_machine_history.specs.kc_machine.Works.{Work}
 use Rattle.kc_machine_history.specs.kc_machine.Works as work
 use Rattle.kc_machine_history.proofs.kc_machine.Functions.{put_cases}
-use Rattle.kc_machine_history.specs.kc_machine.Machine.{World, State, put, put_some, touched, found_at, possible, happened, event_of, seat_of}
-use Rattle.kc_machine_history.specs.kc_machine.Seats.{access_of, work_access, answer_of}
+use Rattle.kc_machine_history.specs.kc_machine.Machine.{World, State, put_at_index, put_some, touched, found_at, possible, happened, event_of, seat_of}
+use Rattle.kc_machine_history.specs.kc_machine.Seats.{access_of, work_access, seat_answered}
 use Rattle.kc_machine_history.specs.kc_machine.Words.{status_is}
 use Rattle.kc_machine_history.specs.kc_machine.declared.seat.Seat.{Seat}
 use Rattle.kc_machine_history.proofs.kc_machine_invariants.Tests.{status_active}
@@ -180,7 +180,7 @@ module _ (w : World) (x : Passing) (d g i : ℕ) where
       go false z q = inl q
       go true z q = at q
         where
-          at : put w.status e new d ≡ status g (Crossed i) → (w.status d ≡ status g (Crossed i)) ⊎ Decides w x d g i
+          at : put_at_index w.status e new d ≡ status g (Crossed i) → (w.status d ≡ status g (Crossed i)) ⊎ Decides w x d g i
           at = put_cases (λ y. y ≡ status g (Crossed i) → (w.status d ≡ status g (Crossed i)) ⊎ Decides w x d g i) w.status e new d
               (λ here q.
               let r : status t.handle.generation t.phase ≡ status g (Crossed i) = sym t.now ∙ q in
@@ -209,7 +209,7 @@ status_came m e d g i = go (nat_lt (seat_of e) m.callers) refl
     there k l (inr y) = inr (l, y)
 
     step : (k : ℕ) → k < m.callers → (b : Bool)
-        → (if b then record m { world = touched m.world (access_of (m.seats k)); seats = put m.seats k (answer_of (m.seats k) (found_at m.world (access_of (m.seats k)))) } else m).world.status d ≡ status g (Crossed i)
+        → (if b then record m { world = touched m.world (access_of (m.seats k)); seats = put_at_index m.seats k (seat_answered (m.seats k) (found_at m.world (access_of (m.seats k)))) } else m).world.status d ≡ status g (Crossed i)
         → (m.world.status d ≡ status g (Crossed i)) ⊎ ((k < m.callers) × Decides m.world (stand (m.seats k)).pass d g i)
     step k l true q = there k l (access_came m.world (stand (m.seats k)).pass d g i (access_of (m.seats k)) (status_touches (m.seats k)) q)
     step k l false q = inl q

@@ -13,7 +13,7 @@ use Rattle.kc_machine_answers.specs.kc_machine_steps.Looks.{halts_at_once, look_
 use Rattle.kc_machine_answers.specs.kc_machine_steps.declared.task.Event.{Event}
 use Rattle.kc_machine_answers.specs.kc_machine.Works as work
 use Rattle.kc_machine_answers.specs.kc_machine.Machine.{Opening, run}
-use Rattle.kc_machine_answers.specs.kc_machine.Seats.{answer_of, answer_by, after, blocked_by, is_idle, begun, begun_idle, working, hanging, halted, halted_by, ended}
+use Rattle.kc_machine_answers.specs.kc_machine.Seats.{seat_answered, answer_by, seat_after, blocked_by, is_idle, begun, begun_idle, working, hanging, halted, halted_by, seat_halted}
 use Rattle.kc_machine_answers.specs.kc_machine.declared.seat.Seat.{Seat}
 use Rattle.kc_machine_answers.proofs.kc_machine_invariants.Always.{always, any_event, all_any}
 
@@ -21,13 +21,13 @@ abbrev Unblocked : Seat → Type 0
 Unblocked s = s.told ≡ Some told.Free → s.blocked ≡ false
 
 module _ (s : Seat) (old : Unblocked s) where
-  goes : (y : Work) (n : Onward) → Unblocked (after (record s { work = y }) n)
+  goes : (y : Work) (n : Onward) → Unblocked (seat_after (record s { work = y }) n)
   goes y onward.Goes = old
   goes y onward.Takes = old
   goes y onward.Unblocks = λ q. refl
   goes y (onward.Tells t) = λ q. let z : t ≡ told.Free = cc in ap (blocked_by s.blocked) z
 
-  answers : (f : Found) → Unblocked (answer_of s f)
+  answers : (f : Found) → Unblocked (seat_answered s f)
   answers f = go s.work
     where
       go : (y : Work) → Unblocked (answer_by s f y)
@@ -59,11 +59,11 @@ module _ (s : Seat) (old : Unblocked s) where
   halts : Unblocked (halted s)
   halts = go s.work
     where
-      at : (y : Work) (b : Bool) → Unblocked (if b then ended s else record s { work = y })
+      at : (y : Work) (b : Bool) → Unblocked (if b then seat_halted s else record s { work = y })
       at y true = λ q. absurd (cc)
       at y false = old
 
-      swap_or : (b : Bool) → Unblocked (if b then ended s else s)
+      swap_or : (b : Bool) → Unblocked (if b then seat_halted s else s)
       swap_or true = λ q. absurd (cc)
       swap_or false = old
 

@@ -3,10 +3,10 @@ use Rattle.std.proofs.Common.{arith, ◌≡◌, ◌<◌, ℕ, ◌++◌, ◌&&◌
 use Rattle.std.specs.Option.{is_some}
 use Rattle.kc_machine_history.specs.kc_machine.Machine.{Opening, found_at, run}
 use Rattle.kc_machine_history.specs.kc_machine.Schedules.{IsSchedule}
-use Rattle.kc_machine_history.specs.kc_machine.Seats.{access_of, after, is_idle}
+use Rattle.kc_machine_history.specs.kc_machine.Seats.{access_of, seat_after, is_idle}
 use Rattle.kc_machine_history.specs.kc_machine.Works.{Work}
 use Rattle.kc_machine_history.specs.kc_machine.declared.seat.Seat.{Seat}
-use Rattle.kc_machine_history.specs.kc_machine_traces.Traces.{Moment, Shadow, listens, reads_of, blocking_after, begins, with_task, shadow_after, now, trace}
+use Rattle.kc_machine_history.specs.kc_machine_traces.Traces.{Moment, Shadow, listens, waiting_reads, blocking_after, begins, with_task, shadow_after, now, trace}
 use Rattle.kc_machine_history.specs.kc_machine_traces.Traces.{place_after}
 use Rattle.kc_machine_history.specs.kc_machine_invariants.Stands.{Waiting, NoWait, Hangs, HangLooks, Leaving, stand}
 use Rattle.kc_machine_answers.proofs.Knowing.{IsBehind, Knows, SameShadow, knows_same, knows_on, GoesOr, after_knows}
@@ -91,7 +91,7 @@ module _ (o : Opening) (es : List Event) (e : Event) (k : ℕ) (g : Going o es e
   quiet i = ((answers_when_done o es k).busy i).0
 
   abbrev gone : Work → Onward → Seat
-  gone a n = after (record s { work = a }) n
+  gone a n = seat_after (record s { work = a }) n
 
   abbrev shade : Work → Onward → Shadow
   shade a n = shadow_after t e s (gone a n) x
@@ -107,5 +107,5 @@ module _ (o : Opening) (es : List Event) (e : Event) (k : ℕ) (g : Going o es e
   pub listening_is : e ≡ Step k → (r : Seat) (a b : Waiting) → (stand s).wait ≡ a → (stand r).wait ≡ b → (shadow_after t e s r x).listening ≡ (if listens a b then t else x.listening)
   listening_is z r a b p q = subst (λ d. (shadow_after t d s r x).listening ≡ (if listens a b then t else x.listening)) (sym z) (λ i. if listens (p i) (q i) then t else x.listening)
 
-  pub blocking_is : e ≡ Step k → (r : Seat) (a : Waiting) → (stand s).wait ≡ a → s.blocked ≡ false → r.blocked ≡ true → (shadow_after t e s r x).blocking ≡ reads_of a
-  blocking_is y r a p q z = subst (λ d. (shadow_after t d s r x).blocking ≡ reads_of a) (sym y) (λ i. blocking_after (q i) (z i) (p i) x.blocking)
+  pub blocking_is : e ≡ Step k → (r : Seat) (a : Waiting) → (stand s).wait ≡ a → s.blocked ≡ false → r.blocked ≡ true → (shadow_after t e s r x).blocking ≡ waiting_reads a
+  blocking_is y r a p q z = subst (λ d. (shadow_after t d s r x).blocking ≡ waiting_reads a) (sym y) (λ i. blocking_after (q i) (z i) (p i) x.blocking)

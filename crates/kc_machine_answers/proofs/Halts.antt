@@ -1,7 +1,7 @@
 -- A task that is told Halted was halted.
 use Rattle.kc_machine_history.specs.kc_machine_words.declared.access.Found.TheVariants as found
 use Rattle.kc_model.specs.declared.word.Word.TheVariants.{Plain, Ref}
-use Rattle.kc_machine_history.specs.kc_machine_steps.Swaps.{onward_of as onward_of_swap, owed_next as swap_owed_next, exchange_next, may_swap, swap_next_at, swap_onward}
+use Rattle.kc_machine_history.specs.kc_machine_steps.Swaps.{onward_of_swap, swap_owed_next, exchange_next, may_swap, swap_next_at, swap_onward}
 use Rattle.kc_machine_history.specs.kc_machine_steps.declared.swap.SwapNext.{SwapNext}
 use Rattle.kc_machine_history.specs.kc_machine_steps.declared.swap.SwapNext.TheVariants as swapping
 use Rattle.kc_machine_history.specs.kc_machine_steps.declared.swap.SwapStep.{SwapStep}
@@ -39,17 +39,17 @@ use Rattle.kc_machine_history.specs.kc_machine_steps.Looks.{look_next, looks_on,
 use Rattle.kc_machine_history.specs.kc_machine.declared.hang.HangStep.TheVariants as hang
 use Rattle.kc_machine_history.specs.kc_machine.declared.hang.HangNext.{HangNext}
 use Rattle.kc_machine_history.specs.kc_machine.declared.hang.HangNext.TheVariants as hanging_on
-use Rattle.kc_machine_history.specs.kc_machine.Hangs.{after_set, look_or_end, looked, look_goes_on, look_of, clear_or_changed, hang_next, onward_of, hang_onward, unblocks_or_tells, leave_onward}
+use Rattle.kc_machine_history.specs.kc_machine.Hangs.{after_set, look_or_end, version_looked, look_goes_on, hang_look_next, clear_or_changed, hang_next, onward_of, hang_onward, unblocks_or_tells, leave_onward}
 use Rattle.kc_machine_history.specs.kc_machine.Works.{Work}
 use Rattle.kc_machine_history.specs.kc_machine.Works as work
 use Rattle.kc_machine_history.proofs.kc_machine.Functions.{put_here}
 use Rattle.kc_machine_history.specs.kc_machine.Machine.{State, Opening, event_of, seat_of, run}
-use Rattle.kc_machine_history.specs.kc_machine.Seats.{is_idle, after, answer_by, answer_of, begun, begun_idle, working, hanging}
+use Rattle.kc_machine_history.specs.kc_machine.Seats.{is_idle, seat_after, answer_by, seat_answered, begun, begun_idle, working, hanging}
 use Rattle.kc_machine_history.specs.kc_machine.declared.seat.Seat.{Seat}
 use Rattle.kc_machine_answers.specs.Causes.{WasHalted, HaltsHaveACause, is_marked}
 use Rattle.kc_machine_history.specs.kc_machine_traces.Traces.{Moment}
 use Rattle.kc_machine_history.specs.kc_machine_invariants.Holds.{own_hold}
-use Rattle.kc_machine_history.specs.kc_machine_invariants.Stands.{Stand, Owns, stand, works, resting, commits}
+use Rattle.kc_machine_history.specs.kc_machine_invariants.Stands.{Stand, Owns, stand, works, resting, stand_commits}
 use Rattle.kc_machine_history.proofs.Successes.{Stays, Starts, moves}
 use Rattle.kc_machine_history.specs.Places.{began}
 use Rattle.kc_machine_history.proofs.kc_machine_traces.Always.{halted_owners}
@@ -136,7 +136,7 @@ module _ (t : Told) (other : IsOther t) where
   end_silent k None q = other.hung (same_told q)
   end_silent k (Some seen) q = absurd (cc)
 
-  looked_silent : (reads : List Seen) (k a b : ℕ) → Silent (looked reads k a b)
+  looked_silent : (reads : List Seen) (k a b : ℕ) → Silent (version_looked reads k a b)
   looked_silent reads k a b = go (b == a)
     where
       go : (c : Bool) → Silent (if c then look_or_end (after_line k) (slice_get reads (after_line k)) else hanging_on.Goes (hang.Clear 0 k))
@@ -151,7 +151,7 @@ module _ (t : Told) (other : IsOther t) where
       by a (looking.Goes step) = goes_silent (hang.Look k step)
       by a (looking.Saw seen) = looked_silent reads k a seen.version
 
-      go : (o : Option Seen) → Silent (look_of reads k step f o)
+      go : (o : Option Seen) → Silent (hang_look_next reads k step f o)
       go None = goes_silent (hang.Look k step)
       go (Some x) = by x.version (look_next x.loc step f)
   hang_silent reads (hang.Clear k n) f = go (slice_get reads (after_line k))
@@ -219,14 +219,14 @@ halted_other = record { hung = λ q. absurd (cc); free = λ q. absurd (cc); chan
 -- ---- a step
 
 module _ (s : Seat) where
-  goes_on : (x : Work) → is_marked x ≡ is_marked s.work → (n : Onward) → (TellsHalted n → is_marked s.work ≡ true) → Stopped (after (record s { work = x }) n) → Stopped s
+  goes_on : (x : Work) → is_marked x ≡ is_marked s.work → (n : Onward) → (TellsHalted n → is_marked s.work ≡ true) → Stopped (seat_after (record s { work = x }) n) → Stopped s
   goes_on x e onward.Goes f y = ⊎_elim (λ q. inl (sym e ∙ q)) inr y
   goes_on x e onward.Takes f y = ⊎_elim (λ q. inl (sym e ∙ q)) inr y
   goes_on x e onward.Unblocks f y = ⊎_elim (λ q. inl (sym e ∙ q)) inr y
   goes_on x e (onward.Tells t) f (inl q) = absurd (cc)
   goes_on x e (onward.Tells t) f (inr q) = let z : t ≡ told.Halted = cc in inl (f (ap onward.Tells z))
 
-  answer_stops : ((c : Commit) → s.work ≡ work.Commit c → Ends c) → (f : Found) → Stopped (answer_of s f) → Stopped s
+  answer_stops : ((c : Commit) → s.work ≡ work.Commit c → Ends c) → (f : Found) → Stopped (seat_answered s f) → Stopped s
   answer_stops ends f = go s.work refl
     where
       look_on : (l : Look) (n : LookNext) → (looks_on l n).halted ≡ l.halted
@@ -284,7 +284,7 @@ module _ (o : Opening) (es : List Event) (k : ℕ) (l : k < o.callers) where
       by : (h : Handle) (p : Phase) → c.stage ≡ Own h (own.Drop p) → (p ≡ Active) ⊎ (p ≡ Halted) → c.halted ≡ true
       by h p z (inl q) = absurd ((subst (StageIsFormed s.calls c.intent) z (subst (WorkIsFormed s.calls s.blocked) w (formed_always o es k)).0).1 q)
       by h p z (inr q) =
-          let t : stand s ≡ record (record (resting s) { halted = c.halted }) { own = Owns h c.intent (own.Drop p) } = ap (works (resting s)) w ∙ ap (commits (record (resting s) { halted = c.halted }) c.intent c.copy) z in
+          let t : stand s ≡ record (record (resting s) { halted = c.halted }) { own = Owns h c.intent (own.Drop p) } = ap (works (resting s)) w ∙ ap (stand_commits (record (resting s) { halted = c.halted }) c.intent c.copy) z in
           let n = (run_shape o es).2 in
           let a : k < (run o es).callers = omega (arith, l, n) in
           let owns = ap (λ (x : Stand). own_hold x.own) t in

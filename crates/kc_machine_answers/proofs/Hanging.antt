@@ -21,17 +21,17 @@ use Rattle.kc_machine_history.specs.kc_machine_steps.Looks.{look_access, look_ne
 use Rattle.kc_machine_history.specs.kc_machine.declared.hang.HangStep.TheVariants as hang
 use Rattle.kc_machine_history.specs.kc_machine.declared.hang.HangNext.{HangNext}
 use Rattle.kc_machine_history.specs.kc_machine.declared.hang.HangNext.TheVariants as hanging
-use Rattle.kc_machine_history.specs.kc_machine.Hangs.{hang_access_of, read_of, hang_next, hang_step, hangs_on, onward_of, set_or_look, look_of, look_goes_on, looked, look_or_end, clear_or_changed}
+use Rattle.kc_machine_history.specs.kc_machine.Hangs.{hang_access_of, read_of, hang_next, hang_step, hangs_on, onward_of, set_or_look, hang_look_next, look_goes_on, version_looked, look_or_end, clear_or_changed}
 use Rattle.kc_machine_history.specs.kc_machine.Waits.{Hang}
 use Rattle.kc_machine_history.specs.kc_machine.Works.{Work}
 use Rattle.kc_machine_history.specs.kc_machine.Works as work
 use Rattle.kc_machine_history.specs.kc_machine.Machine.{Opening, found_at, seat_of, run}
-use Rattle.kc_machine_history.specs.kc_machine.Seats.{access_of, work_access, after, is_idle}
+use Rattle.kc_machine_history.specs.kc_machine.Seats.{access_of, work_access, seat_after, is_idle}
 use Rattle.kc_machine_history.specs.kc_machine.declared.seat.Seat.{Seat}
 use Rattle.kc_machine_history.specs.kc_machine_traces.Traces.{Shadow, listens, shadow_after, now, trace}
-use Rattle.kc_machine_history.specs.kc_machine_invariants.Stands.{NoPass, Looks, Waiting, NoWait, Hangs, HangLooks, location_of, stand, works, resting, hangs}
+use Rattle.kc_machine_history.specs.kc_machine_invariants.Stands.{NoPass, Looks, Waiting, NoWait, Hangs, HangLooks, location_of, stand, works, resting, stand_hangs}
 use Rattle.kc_machine_history.proofs.Filters.{got}
-use Rattle.kc_machine_history.specs.Places.{pass_of}
+use Rattle.kc_machine_history.specs.Places.{seat_pass}
 use Rattle.kc_machine_answers.proofs.Going.{Going, goes_by, listening_is, blocking_is}
 use Rattle.kc_machine_answers.proofs.Knowing.{IsBehind, behind_on, behind_now, history_still, StepHears, Hears, Knows, confirmed_on, read_there, GoesOr, other_told}
 use Rattle.kc_machine_answers.proofs.Looking.{look_on}
@@ -68,11 +68,11 @@ module _ (o : Opening) (es : List Event) (e : Event) (k : ℕ) (g : Going o es e
   unblocked : s.blocked ≡ false
   unblocked = (subst (WorkIsFormed s.calls s.blocked) is (formed_always o es k)).0
 
-  waits : (step : HangStep) → h.step ≡ step → (stand s).wait ≡ (hangs (resting s) reads step).wait
-  waits step z = ap (λ a. (works (resting s) a).wait) is ∙ ap (λ u. (hangs (resting s) reads u).wait) z
+  waits : (step : HangStep) → h.step ≡ step → (stand s).wait ≡ (stand_hangs (resting s) reads step).wait
+  waits step z = ap (λ a. (works (resting s) a).wait) is ∙ ap (λ u. (stand_hangs (resting s) reads u).wait) z
 
   abbrev r : HangNext → Seat
-  r n = after (record s { work = work.Hang (hangs_on h n) }) (onward_of n)
+  r n = seat_after (record s { work = work.Hang (hangs_on h n) }) (onward_of n)
 
   abbrev y : HangNext → Shadow
   y n = shadow_after (now (trace o es)) e s (r n) x
@@ -93,10 +93,10 @@ module _ (o : Opening) (es : List Event) (e : Event) (k : ℕ) (g : Going o es e
         on n (record { promises = ((λ i v b z. absurd (omega arith)), λ v z. tt); asked = tt; hears = subst (IsBehind o es') (sym q) (behind_now o es e (history_still o es e still unswapped)) })
       where
         unswapped : (stand ((run o es).seats (seat_of e))).swap ≡ NoSwap
-        unswapped = ap (λ d. (stand ((run o es).seats (seat_of d))).swap) stepped ∙ ap (λ a. (works (resting s) a).swap) is ∙ ap (λ u. (hangs (resting s) reads u).swap) at
+        unswapped = ap (λ d. (stand ((run o es).seats (seat_of d))).swap) stepped ∙ ap (λ a. (works (resting s) a).swap) is ∙ ap (λ u. (stand_hangs (resting s) reads u).swap) at
 
-        still : pass_of o es (seat_of e) ≡ NoPass
-        still = ap (λ d. pass_of o es (seat_of d)) stepped ∙ ap (λ a. (works (resting s) a).pass) is ∙ ap (λ u. (hangs (resting s) reads u).pass) at
+        still : seat_pass o es (seat_of e) ≡ NoPass
+        still = ap (λ d. seat_pass o es (seat_of d)) stepped ∙ ap (λ a. (works (resting s) a).pass) is ∙ ap (λ u. (stand_hangs (resting s) reads u).pass) at
 
   -- the bits of a hang that found a change
   clears : (j c : ℕ) (n : Option Seen) → Then (r (clear_or_changed c (after_line j) n))
@@ -131,7 +131,7 @@ module _ (o : Opening) (es : List Event) (e : Event) (k : ℕ) (g : Going o es e
       promised : NextPromises o es' x.listening v.loc (look_next v.loc step f)
       promised = subst (λ z. NextPromises o es' x.listening v.loc (look_next v.loc step z)) (sym found_it)
           (look_on o es e g.made g.made_on k g.within x.listening (listening_moment o es k) v.loc (read_there o es e g.made g.made_on k g.within reads made.1.0 j v expected) step
-          (ap (λ z. (works (resting s) z).look) is ∙ ap (λ u. (hangs (resting s) reads u).look) at ∙ ap (λ u. Looks (location_of u) (looking.Goes step)) expected) (old.1 v expected))
+          (ap (λ z. (works (resting s) z).look) is ∙ ap (λ u. (stand_hangs (resting s) reads u).look) at ∙ ap (λ u. Looks (location_of u) (looking.Goes step)) expected) (old.1 v expected))
 
       -- the read agrees, so it is confirmed too
       module _ (c : IsConfirmed o es' x.listening v) where
@@ -168,7 +168,7 @@ module _ (o : Opening) (es : List Event) (e : Event) (k : ℕ) (g : Going o es e
             all : (u : Seen) → Contains reads u → IsConfirmed o es' x.listening u
             all u b = let i = got reads u b in up_to i.0 u (past i.0 (after_line j) u q i.2) i.2
 
-      saw : (u : Seen) → NextPromises o es' x.listening v.loc (looking.Saw u) → Then (r (looked reads j v.version u.version))
+      saw : (u : Seen) → NextPromises o es' x.listening v.loc (looking.Saw u) → Then (r (version_looked reads j v.version u.version))
       saw u p = go (u.version == v.version) refl
         where
           go : (b : Bool) → (u.version == v.version) ≡ b → Then (r (if b then look_or_end (after_line j) (slice_get reads (after_line j)) else hanging.Goes (hang.Clear 0 j)))
@@ -179,7 +179,7 @@ module _ (o : Opening) (es : List Event) (e : Event) (k : ℕ) (g : Going o es e
       looks_at (looking.Goes z) p = goes j z (confirmed, λ u q. subst (λ (a : Seen). StepPromises o es' x.listening a.loc z) (same_read (sym expected ∙ q)) p)
       looks_at (looking.Saw u) p = saw u p
 
-    looks_on_at : (n : Option Seen) → slice_get reads j ≡ n → Then (r (look_of reads j step f n))
+    looks_on_at : (n : Option Seen) → slice_get reads j ≡ n → Then (r (hang_look_next reads j step f n))
     looks_on_at None q = goes j step (confirmed, λ u z. let a : None ≡ Some u = sym q ∙ z in absurd (cc))
     looks_on_at (Some v) q = looks_at v q (look_next v.loc step f) (promised v q)
 

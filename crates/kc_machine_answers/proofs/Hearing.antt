@@ -5,8 +5,8 @@ use Rattle.kc_machine_answers.specs.kc_machine_invariants.Stands.{Swapping, NoSw
 use Rattle.kc_machine_answers.proofs.kc_machine_traces.Swapping.{swap_of}
 use Rattle.kc_machine_answers.proofs.Owns.{IsMute, SwapKept, mute, stays}
 use Rattle.kc_machine_answers.specs.kc_machine_steps.Swaps.{swap_access_at, swap_next_at, swaps_on, ends_at_once}
-use Rattle.kc_machine_answers.specs.kc_machine_steps.Swaps.{owed_next as owed_by_it}
-use Rattle.kc_machine_answers.specs.kc_machine_steps.Swaps.{onward_of as onward_of_swap}
+use Rattle.kc_machine_answers.specs.kc_machine_steps.Swaps.{swap_owed_next as owed_by_it}
+use Rattle.kc_machine_answers.specs.kc_machine_steps.Swaps.{onward_of_swap}
 use Rattle.kc_machine_answers.specs.kc_machine_steps.declared.swap.Swap.{Swap}
 use Rattle.kc_machine_answers.specs.kc_machine_steps.declared.swap.SwapNext.{SwapNext}
 use Rattle.kc_machine_answers.specs.kc_machine_steps.declared.swap.SwapNext.TheVariants as swapping
@@ -57,8 +57,8 @@ use Rattle.kc_machine_answers.specs.kc_machine.Words.{bits_after}
 use Rattle.kc_machine_answers.specs.kc_machine.Works.{Work}
 use Rattle.kc_machine_answers.specs.kc_machine.Works as work
 use Rattle.kc_machine_answers.proofs.kc_machine.Functions.{put_here}
-use Rattle.kc_machine_answers.specs.kc_machine.Machine.{World, State, put, touched, found_at, possible, happened, event_of, seat_of}
-use Rattle.kc_machine_answers.specs.kc_machine.Seats.{access_of, work_access, answer_of, answer_by, after, is_idle, begun, begun_idle, halted, halted_by, ended}
+use Rattle.kc_machine_answers.specs.kc_machine.Machine.{World, State, put_at_index, touched, found_at, possible, happened, event_of, seat_of}
+use Rattle.kc_machine_answers.specs.kc_machine.Seats.{access_of, work_access, seat_answered, answer_by, seat_after, is_idle, begun, begun_idle, halted, halted_by, seat_halted}
 use Rattle.kc_machine_answers.specs.kc_machine.declared.seat.Seat.{Seat}
 use Rattle.kc_machine_answers.specs.kc_machine_traces.Claims.{still_wakes, owed_by}
 use Rattle.kc_machine_answers.specs.kc_machine_invariants.Stands.{Own, NoOwn, Owns}
@@ -84,15 +84,15 @@ IsDeaf r = (r.blocked ≡ false) × (listens_by r.work ≡ false)
 -- the words w become v; the seat is caller c, owned a, swapped u, and becomes r
 pub data Hearing (w : World) (c : ℕ) (a : Own) (u : Swapping) (v : World) (r : Seat) : Type 0 where
   still : v.awaiters ≡ w.awaiters → v.signal ≡ w.signal → WakesKept a (work_own r.work) → SwapKept u (swap_of r.work) → Hearing w c a u v r
-  sets : (x : Seen) → v.awaiters ≡ put w.awaiters x.loc.0 (bits_after (bits.Set c) (w.awaiters x.loc.0)) → v.signal ≡ w.signal → a ≡ NoOwn → u ≡ NoSwap → Hearing w c a u v r
-  clears : (x : Seen) → v.awaiters ≡ put w.awaiters x.loc.0 (bits_after (bits.Clear c) (w.awaiters x.loc.0)) → v.signal ≡ w.signal → a ≡ NoOwn → u ≡ NoSwap → IsDeaf r → Hearing w c a u v r
-  unsignals : v.awaiters ≡ w.awaiters → v.signal ≡ put w.signal c false → a ≡ NoOwn → u ≡ NoSwap → IsDeaf r → Hearing w c a u v r
-  wakes : (h : Handle) (i : Intent) (j owed : ℕ) (x : Line) → a ≡ Owns h i (own.Wake j owed) → slice_get i.lines.items j ≡ Some x → v.awaiters ≡ put w.awaiters x.seen.loc.0 0 → v.signal ≡ w.signal
+  sets : (x : Seen) → v.awaiters ≡ put_at_index w.awaiters x.loc.0 (bits_after (bits.Set c) (w.awaiters x.loc.0)) → v.signal ≡ w.signal → a ≡ NoOwn → u ≡ NoSwap → Hearing w c a u v r
+  clears : (x : Seen) → v.awaiters ≡ put_at_index w.awaiters x.loc.0 (bits_after (bits.Clear c) (w.awaiters x.loc.0)) → v.signal ≡ w.signal → a ≡ NoOwn → u ≡ NoSwap → IsDeaf r → Hearing w c a u v r
+  unsignals : v.awaiters ≡ w.awaiters → v.signal ≡ put_at_index w.signal c false → a ≡ NoOwn → u ≡ NoSwap → IsDeaf r → Hearing w c a u v r
+  wakes : (h : Handle) (i : Intent) (j owed : ℕ) (x : Line) → a ≡ Owns h i (own.Wake j owed) → slice_get i.lines.items j ≡ Some x → v.awaiters ≡ put_at_index w.awaiters x.seen.loc.0 0 → v.signal ≡ w.signal
       → work_own r.work ≡ step_own i h (wake_or_signal (bit_or owed (w.awaiters x.seen.loc.0)) (next_line Put i.mode i.lines.items (after_line j))) → u ≡ NoSwap → Hearing w c a u v r
-  signals : (h : Handle) (i : Intent) (owed : ℕ) → a ≡ Owns h i (own.Signal owed) → v.awaiters ≡ w.awaiters → v.signal ≡ put w.signal (count_trailing_zeros 64 owed) true
+  signals : (h : Handle) (i : Intent) (owed : ℕ) → a ≡ Owns h i (own.Signal owed) → v.awaiters ≡ w.awaiters → v.signal ≡ put_at_index w.signal (count_trailing_zeros 64 owed) true
       → work_own r.work ≡ step_own i h (owed_next (bit_and owed (owed - 1))) → u ≡ NoSwap → Hearing w c a u v r
-  swap_wakes : (x : Seen) (after : ℕ) → a ≡ NoOwn → u ≡ Swaps x after swap.Wake → v.awaiters ≡ put w.awaiters x.loc.0 0 → v.signal ≡ w.signal → owed_by_swap (swap_of r.work) ≡ w.awaiters x.loc.0 → Hearing w c a u v r
-  swap_signals : (x : Seen) (after owed : ℕ) → a ≡ NoOwn → u ≡ Swaps x after (swap.Signal owed) → v.awaiters ≡ w.awaiters → v.signal ≡ put w.signal (count_trailing_zeros 64 owed) true
+  swap_wakes : (x : Seen) (after : ℕ) → a ≡ NoOwn → u ≡ Swaps x after swap.Wake → v.awaiters ≡ put_at_index w.awaiters x.loc.0 0 → v.signal ≡ w.signal → owed_by_swap (swap_of r.work) ≡ w.awaiters x.loc.0 → Hearing w c a u v r
+  swap_signals : (x : Seen) (after owed : ℕ) → a ≡ NoOwn → u ≡ Swaps x after (swap.Signal owed) → v.awaiters ≡ w.awaiters → v.signal ≡ put_at_index w.signal (count_trailing_zeros 64 owed) true
       → owed_by_swap (swap_of r.work) ≡ bit_and owed (owed - 1) → Hearing w c a u v r
 
 -- ---- accesses that touch neither
@@ -194,7 +194,7 @@ module _ (w : World) (s : Seat) where
       still t.0 t.1 (subst (WakesKept (step_own c.intent h step)) (sym q) (own_keeps (loaded c (found_at w x)) h step (found_at w x) e)) (mute tt)
 
   abbrev Stepped : Commit → Stage → Found → Seat
-  Stepped c x f = let n = stage_next s.descriptors s.calls (loaded c f) x f in after (record s { work = work.Commit (gone_on (loaded c f) n) }) (onward_by n)
+  Stepped c x f = let n = stage_next s.descriptors s.calls (loaded c f) x f in seat_after (record s { work = work.Commit (gone_on (loaded c f) n) }) (onward_by n)
 
   woken : (c : Commit) (h : Handle) (j owed : ℕ) (o : Option Line) → slice_get c.intent.lines.items j ≡ o → By (Owns h c.intent (own.Wake j owed)) (wake_access o) (Stepped c (stage.Own h (own.Wake j owed)) (found_at w (wake_access o)))
   woken c h j owed None e = still refl refl same (mute tt)
@@ -214,18 +214,18 @@ module _ (w : World) (s : Seat) where
   commits c (stage.Own h (own.Signal owed)) = signals h c.intent owed refl refl refl refl refl
   commits c (stage.Own h (own.Drop p)) = quiet_none _ (stage_access s.caller s.calls c (stage.Own h (own.Drop p))) _ tt refl refl
 
-  cleared : (h : Hang) (changed k : ℕ) (o : Option Seen) → s.blocked ≡ false → IsDeaf (after (record s { work = work.Hang (hangs_on h (clear_or_changed changed k o)) }) (onward_of (clear_or_changed changed k o)))
+  cleared : (h : Hang) (changed k : ℕ) (o : Option Seen) → s.blocked ≡ false → IsDeaf (seat_after (record s { work = work.Hang (hangs_on h (clear_or_changed changed k o)) }) (onward_of (clear_or_changed changed k o)))
   cleared h changed k None b = (b, refl)
   cleared h changed k (Some x) b = (b, refl)
 
   hangs : (h : Hang) (step : HangStep) (o : Option Seen) → s.blocked ≡ false
-      → By NoOwn (hang_access_of s.caller step o) (let n = hang_next h.reads.items step (found_at w (hang_access_of s.caller step o)) in after (record s { work = work.Hang (hangs_on h n) }) (onward_of n))
+      → By NoOwn (hang_access_of s.caller step o) (let n = hang_next h.reads.items step (found_at w (hang_access_of s.caller step o)) in seat_after (record s { work = work.Hang (hangs_on h n) }) (onward_of n))
   hangs h step None b = quiet_none NoOwn access.Nothing _ tt refl refl
   hangs h (hang.Set j) (Some x) b = sets x refl refl refl refl
   hangs h (hang.Look j step) (Some x) b = quiet_none NoOwn (look_access x.loc step) _ (look_quiet x.loc step) refl refl
   hangs h (hang.Clear j changed) (Some x) b = clears x refl refl refl refl (cleared h changed (after_line j) (slice_get h.reads.items (after_line j)) b)
 
-  left : (l : Leave) (k : ℕ) (o : Option Seen) → IsDeaf (after (record s { work = work.Leave (leaves_on l k o) }) (unblocks_or_tells o))
+  left : (l : Leave) (k : ℕ) (o : Option Seen) → IsDeaf (seat_after (record s { work = work.Leave (leaves_on l k o) }) (unblocks_or_tells o))
   left l k None = (refl, refl)
   left l k (Some x) = (refl, refl)
 
@@ -243,12 +243,12 @@ module _ (w : World) (s : Seat) where
     at step = record { seen = r; after = value; step = step }
 
     abbrev Swapped : SwapStep → Access → SwapNext → Type 0
-    Swapped step x n = Hearing w s.caller NoOwn (Swaps r value step) (touched w x) (after (record s { work = work.Swap (swaps_on (at step) n) }) (onward_of_swap n))
+    Swapped step x n = Hearing w s.caller NoOwn (Swaps r value step) (touched w x) (seat_after (record s { work = work.Swap (swaps_on (at step) n) }) (onward_of_swap n))
 
-    owes : (step : SwapStep) (n : ℕ) → owed_by_swap (swap_of (after (record s { work = work.Swap (swaps_on (at step) (owed_by_it s.calls n)) }) (onward_of_swap (owed_by_it s.calls n))).work) ≡ n
+    owes : (step : SwapStep) (n : ℕ) → owed_by_swap (swap_of (seat_after (record s { work = work.Swap (swaps_on (at step) (owed_by_it s.calls n)) }) (onward_of_swap (owed_by_it s.calls n))).work) ≡ n
     owes step n = go (n == 0) refl
       where
-        go : (b : Bool) → (n == 0) ≡ b → (let m = if b then swapping.Tells (told.Succeeded s.calls) else swapping.Goes (swap.Signal n) in owed_by_swap (swap_of (after (record s { work = work.Swap (swaps_on (at step) m) }) (onward_of_swap m)).work)) ≡ n
+        go : (b : Bool) → (n == 0) ≡ b → (let m = if b then swapping.Tells (told.Succeeded s.calls) else swapping.Goes (swap.Signal n) in owed_by_swap (swap_of (seat_after (record s { work = work.Swap (swaps_on (at step) m) }) (onward_of_swap m)).work)) ≡ n
         go true q = sym (eqb-true n 0 q)
         go false q = refl
 
@@ -288,12 +288,12 @@ module _ (w : World) (s : Seat) where
   halts : Calm (halted s)
   halts = go s.work refl
     where
-      stages : (c : Commit) (x : Stage) → WakesKept (stage_own c.intent x) (work_own (if unowned x then ended s else record s { work = work.Commit (halted_at c x) }).work)
+      stages : (c : Commit) (x : Stage) → WakesKept (stage_own c.intent x) (work_own (if unowned x then seat_halted s else record s { work = work.Commit (halted_at c x) }).work)
       stages c (stage.Scan d worn) = none refl refl
       stages c (stage.Take d g) = none refl refl
       stages c (stage.Own h step) = halt_keeps c.intent h step
 
-      ends_or : (x : Swap) (step : SwapStep) → s.work ≡ work.Swap (record { seen = x.seen; after = x.after; step = step }) → Calm (if ends_at_once step then ended s else s)
+      ends_or : (x : Swap) (step : SwapStep) → s.work ≡ work.Swap (record { seen = x.seen; after = x.after; step = step }) → Calm (if ends_at_once step then seat_halted s else s)
       ends_or x swap.Exchange e = still refl refl (subst (λ y. WakesKept (work_own y) NoOwn) (sym e) (none refl refl)) (subst (λ y. SwapKept (swap_of y) NoSwap) (sym e) (mute tt))
       ends_or x swap.Wake e = still refl refl same stays
       ends_or x (swap.Signal owed) e = still refl refl same stays
@@ -317,10 +317,10 @@ event_hears m e f = go (nat_lt (seat_of e) m.callers)
     unmoved : (k : ℕ) → At m k m
     unmoved k = still refl refl same stays
 
-    here : (k : ℕ) (v : World) (r : Seat) → Hearing m.world (m.seats k).caller (work_own (m.seats k).work) (swap_of (m.seats k).work) v r → At m k (record m { world = v; seats = put m.seats k r })
+    here : (k : ℕ) (v : World) (r : Seat) → Hearing m.world (m.seats k).caller (work_own (m.seats k).work) (swap_of (m.seats k).work) v r → At m k (record m { world = v; seats = put_at_index m.seats k r })
     here k v r h = subst (Hearing m.world (m.seats k).caller (work_own (m.seats k).work) (swap_of (m.seats k).work) v) (sym (put_here m.seats k r)) h
 
-    step : (k : ℕ) → IsWellFormed (m.seats k) → (b : Bool) → At m k (if b then record m { world = touched m.world (access_of (m.seats k)); seats = put m.seats k (answer_of (m.seats k) (found_at m.world (access_of (m.seats k)))) } else m)
+    step : (k : ℕ) → IsWellFormed (m.seats k) → (b : Bool) → At m k (if b then record m { world = touched m.world (access_of (m.seats k)); seats = put_at_index m.seats k (seat_answered (m.seats k) (found_at m.world (access_of (m.seats k)))) } else m)
     step k f true = here k _ _ (works m.world (m.seats k) (m.seats k).work f)
     step k f false = unmoved k
 

@@ -1,6 +1,6 @@
 -- Who was told Hung is blocked, by the reads of its hang.
 use Rattle.kc_machine_answers.specs.kc_machine_steps.Swaps.{swap_after, swap_next, ends_at_once}
-use Rattle.kc_machine_answers.specs.kc_machine_steps.Swaps.{onward_of as onward_of_swap}
+use Rattle.kc_machine_answers.specs.kc_machine_steps.Swaps.{onward_of_swap}
 use Rattle.kc_machine_answers.specs.kc_machine_steps.declared.swap.SwapNext.{SwapNext}
 use Rattle.kc_machine_answers.specs.kc_machine_steps.declared.swap.SwapNext.TheVariants as swapping
 use Rattle.kc_machine_answers.proofs.Listening.{SwapTellsSo, swap_tells}
@@ -10,7 +10,7 @@ use borrow.Author.Tests.{eqb-false, eqb-true}
 use Rattle.kc_machine_answers.specs.kc_machine.Hangs.{hang_step, hangs_on, leave_after, next_read, onward_of, unblocks_or_tells}
 use Rattle.kc_machine_answers.specs.kc_machine.Machine.{Opening, State, event_of, found_at, run, seat_of}
 use Rattle.kc_machine_answers.specs.kc_machine.Schedules.{IsSchedule}
-use Rattle.kc_machine_answers.specs.kc_machine.Seats.{access_of, after, answer_by, answer_of, begun, begun_idle, blocked_by, ended, halted, halted_by, hanging, is_idle, working}
+use Rattle.kc_machine_answers.specs.kc_machine.Seats.{access_of, seat_after, answer_by, seat_answered, begun, begun_idle, blocked_by, seat_halted, halted, halted_by, hanging, is_idle, working}
 use Rattle.kc_machine_answers.specs.kc_machine.Waits.{Hang}
 use Rattle.kc_machine_answers.specs.kc_machine.Works.{Work}
 use Rattle.kc_machine_answers.specs.kc_machine.Works as work
@@ -19,7 +19,7 @@ use Rattle.kc_machine_answers.specs.kc_machine.declared.hang.HangNext.TheVariant
 use Rattle.kc_machine_answers.specs.kc_machine.declared.hang.HangStep.{HangStep}
 use Rattle.kc_machine_answers.specs.kc_machine.declared.hang.HangStep.TheVariants as hang
 use Rattle.kc_machine_answers.specs.kc_machine.declared.seat.Seat.{Seat}
-use Rattle.kc_machine_answers.specs.kc_machine_traces.Traces.{Shadow, begins, blocking_after, now, reads_of, trace, with_task}
+use Rattle.kc_machine_answers.specs.kc_machine_traces.Traces.{Shadow, begins, blocking_after, now, waiting_reads, trace, with_task}
 use Rattle.kc_machine_answers.specs.kc_machine_commits.Commits.{commit_after, loaded, onward_by, stage_next, told_of}
 use Rattle.kc_machine_answers.specs.kc_machine_commits.Halts.{commit_halted, unowned}
 use Rattle.kc_machine_answers.specs.kc_machine_commits.Nexts.{Next}
@@ -72,30 +72,30 @@ module _ (s : Seat) (quiet : is_idle s.work ≡ false → s.told ≡ None) where
     abbrev Comes : Seat → Type 0
     Comes r = IsHung r → Came s (Step k) r
 
-    looks : (x : Work) → is_idle s.work ≡ false → (b : Bool) (n : LookNext) → Comes (after (record s { work = x }) (told_by b n))
+    looks : (x : Work) → is_idle s.work ≡ false → (b : Bool) (n : LookNext) → Comes (seat_after (record s { work = x }) (told_by b n))
     looks x i true n q = absurd (cc)
     looks x i false (looking.Goes step) q = busy i q
     looks x i false (looking.Saw seen) q = absurd (cc)
 
-    commits : (x : Work) → is_idle s.work ≡ false → (n : Next) → TellsSo (λ t. t ≢ told.Hung) n → Comes (after (record s { work = x }) (onward_by n))
+    commits : (x : Work) → is_idle s.work ≡ false → (n : Next) → TellsSo (λ t. t ≢ told.Hung) n → Comes (seat_after (record s { work = x }) (onward_by n))
     commits x i (next.Goes stage) y q = busy i q
     commits x i (next.Takes stage) y q = busy i q
     commits x i (next.Tells t) y q = let z : t ≡ told.Hung = cc in absurd (y z)
 
-    hangs : (h : Hang) → s.work ≡ work.Hang h → is_idle s.work ≡ false → (n : HangNext) → Comes (after (record s { work = work.Hang (hangs_on h n) }) (onward_of n))
+    hangs : (h : Hang) → s.work ≡ work.Hang h → is_idle s.work ≡ false → (n : HangNext) → Comes (seat_after (record s { work = work.Hang (hangs_on h n) }) (onward_of n))
     hangs h w i (hanging_on.Goes step) q = busy i q
     hangs h w i (hanging_on.Tells t) q = let z : t ≡ told.Hung = cc in hung h k w (ap (blocked_by s.blocked) z) refl
 
-    leaves : (x : Work) → is_idle s.work ≡ false → (o : Option Seen) → Comes (after (record s { work = x }) (unblocks_or_tells o))
+    leaves : (x : Work) → is_idle s.work ≡ false → (o : Option Seen) → Comes (seat_after (record s { work = x }) (unblocks_or_tells o))
     leaves x i None q = absurd (cc)
     leaves x i (Some seen) q = busy i q
 
-    swaps : (x : Work) → is_idle s.work ≡ false → (n : SwapNext) → SwapTellsSo (λ t. t ≢ told.Hung) n → Comes (after (record s { work = x }) (onward_of_swap n))
+    swaps : (x : Work) → is_idle s.work ≡ false → (n : SwapNext) → SwapTellsSo (λ t. t ≢ told.Hung) n → Comes (seat_after (record s { work = x }) (onward_of_swap n))
     swaps x i (swapping.Goes step) y q = busy i q
     swaps x i (swapping.Takes step) y q = busy i q
     swaps x i (swapping.Tells t) y q = let z : t ≡ told.Hung = cc in absurd (y z)
 
-    answered : (f : Found) → Comes (answer_of s f)
+    answered : (f : Found) → Comes (seat_answered s f)
     answered f = go s.work refl
       where
         go : (x : Work) → s.work ≡ x → Comes (answer_by s f x)
@@ -132,11 +132,11 @@ module _ (s : Seat) (quiet : is_idle s.work ≡ false → s.told ≡ None) where
   halted_came : (k : ℕ) → IsHung (halted s) → Came s (Halt k) (halted s)
   halted_came k = go s.work refl
     where
-      ends_or : (x : Work) (b : Bool) → is_idle s.work ≡ false → IsHung (if b then ended s else record s { work = x }) → Came s (Halt k) (if b then ended s else record s { work = x })
+      ends_or : (x : Work) (b : Bool) → is_idle s.work ≡ false → IsHung (if b then seat_halted s else record s { work = x }) → Came s (Halt k) (if b then seat_halted s else record s { work = x })
       ends_or x true i q = absurd (cc)
       ends_or x false i q = busy i q
 
-      swap_or : (b : Bool) → IsHung (if b then ended s else s) → Came s (Halt k) (if b then ended s else s)
+      swap_or : (b : Bool) → IsHung (if b then seat_halted s else s) → Came s (Halt k) (if b then seat_halted s else s)
       swap_or true q = absurd (cc)
       swap_or false q = stood
 
@@ -173,7 +173,7 @@ begins_none (Begin k t) s = go (is_idle s.work)
 begins_none (Step k) s = refl
 begins_none (Halt k) s = refl
 
-hang_reads : (reads : List Seen) (step : HangStep) → reads_of (hang_wait reads step) ≡ reads
+hang_reads : (reads : List Seen) (step : HangStep) → waiting_reads (hang_wait reads step) ≡ reads
 hang_reads reads (hang.Set k) = refl
 hang_reads reads (hang.Look k step) = refl
 hang_reads reads (hang.Clear k c) = refl
@@ -214,7 +214,7 @@ module _ (o : Opening) (es : List Event) (e : Event) (w : IsSchedule o es) (old 
           let free : s.blocked ≡ false = (subst (WorkIsFormed s.calls s.blocked) is (formed_always o es j)).0 in
           let t : x'.task ≡ x.task = kept_task o es e ∙ ap (λ d. (with_task (begins d s ((event_of (run o es) e).seats j)) (now (trace o es)) x).task) step in
           let given = (subst (λ y. WorkGives o es j x.task x.listening y) is (all_give o es w j l).works).0 in
-          let wait : reads_of (stand s).wait ≡ h.reads.items = ap reads_of (wait_is s ∙ ap work_wait is) ∙ hang_reads h.reads.items h.step in
+          let wait : waiting_reads (stand s).wait ≡ h.reads.items = ap waiting_reads (wait_is s ∙ ap work_wait is) ∙ hang_reads h.reads.items h.step in
           (b', λ reads asked. blocking_is false true free b' ∙ wait ∙ same_reads x.task h.reads.items reads given (sym t ∙ asked))
 
   all_on : AllBlocked o es'

@@ -2,7 +2,7 @@
 use Rattle.kc_machine_answers.proofs.kc_machine_traces.Swapping.{swap_of, stand_swap}
 use Rattle.kc_machine_answers.proofs.Listening.{SwapTellsSo, swap_tells}
 use Rattle.kc_machine_answers.specs.kc_machine_steps.Swaps.{swaps_on, ends_at_once}
-use Rattle.kc_machine_answers.specs.kc_machine_steps.Swaps.{onward_of as onward_of_swap}
+use Rattle.kc_machine_answers.specs.kc_machine_steps.Swaps.{onward_of_swap}
 use Rattle.kc_machine_answers.specs.kc_machine_steps.declared.swap.Swap.{Swap}
 use Rattle.kc_machine_answers.specs.kc_machine_steps.declared.swap.SwapNext.{SwapNext}
 use Rattle.kc_machine_answers.specs.kc_machine_steps.declared.swap.SwapNext.TheVariants as swapping
@@ -39,19 +39,19 @@ use Rattle.kc_machine_answers.specs.kc_machine_steps.Looks.{look_access, look_ne
 use Rattle.kc_machine_answers.specs.kc_machine.declared.hang.HangStep.TheVariants as hang
 use Rattle.kc_machine_answers.specs.kc_machine.declared.hang.LeaveStep.{LeaveStep}
 use Rattle.kc_machine_answers.specs.kc_machine.declared.hang.LeaveStep.TheVariants as leave
-use Rattle.kc_machine_answers.specs.kc_machine.Hangs.{hang_next, hangs_on, onward_of, set_or_look, clear_or_changed, look_or_end, look_goes_on, look_of, looked, leaves_on, unblocks_or_tells, next_read, read_of, hang_access_of}
+use Rattle.kc_machine_answers.specs.kc_machine.Hangs.{hang_next, hangs_on, onward_of, set_or_look, clear_or_changed, look_or_end, look_goes_on, hang_look_next, version_looked, leaves_on, unblocks_or_tells, next_read, read_of, hang_access_of}
 use Rattle.kc_machine_answers.specs.kc_machine.Works.{Work}
 use Rattle.kc_machine_answers.specs.kc_machine.declared.hang.HangNext.{HangNext}
 use Rattle.kc_machine_answers.specs.kc_machine.declared.hang.HangNext.TheVariants.{Goes, Tells}
 use Rattle.kc_machine_answers.specs.kc_machine.Works as work
 use Rattle.kc_machine_answers.specs.kc_machine.Machine.{State, Opening, found_at, event_of, seat_of, run}
 use Rattle.kc_machine_answers.specs.kc_machine.Schedules.{IsSchedule}
-use Rattle.kc_machine_answers.specs.kc_machine.Seats.{access_of, work_access, answer_of, answer_by, after, is_idle, begun, begun_idle, working, hanging, halted, halted_by, ended}
+use Rattle.kc_machine_answers.specs.kc_machine.Seats.{access_of, work_access, seat_answered, answer_by, seat_after, is_idle, begun, begun_idle, working, hanging, halted, halted_by, seat_halted}
 use Rattle.kc_machine_answers.specs.kc_machine.declared.seat.Seat.{Seat}
 use Rattle.kc_machine_answers.specs.kc_machine_traces.Claims.{has_bit, history_at}
-use Rattle.kc_machine_answers.specs.kc_machine_traces.Histories.{ending}
+use Rattle.kc_machine_answers.specs.kc_machine_traces.Histories.{ending_store}
 use Rattle.kc_machine_answers.specs.kc_machine_traces.Traces.{Moment, Shadow, now, trace, first_store, listens, begins, with_task}
-use Rattle.kc_machine_answers.specs.kc_machine_invariants.Stands.{Waiting, NoWait, Hangs, HangLooks, Looks, stand, works, resting, hangs, location_of}
+use Rattle.kc_machine_answers.specs.kc_machine_invariants.Stands.{Waiting, NoWait, Hangs, HangLooks, Looks, stand, works, resting, stand_hangs, location_of}
 use Rattle.kc_machine_answers.proofs.kc_machine_history.Filters.{got}
 use Rattle.kc_machine_answers.proofs.kc_machine_history.Growing.{stood_since}
 use Rattle.kc_machine_answers.proofs.kc_machine_history.Passes.{pass_is, work_pass}
@@ -109,7 +109,7 @@ module _ (o : Opening) (es : List Event) (e : Event) where
 
   moved_on : (since : Moment) (reads : List Seen) (c : ℕ) → ReadMoved o es since reads c → ReadMoved o es' since reads c
   moved_on since reads c (r, g, (i, l, b, ne)) =
-      (r, g, (i, l, (let z = length-append es (e ∷ []) in omega arith), subst (λ xs. (ending (first_store o) (trace o xs).history r.loc.0).version ≢ r.version) (sym (take-append-le i es (e ∷ []) b)) ne))
+      (r, g, (i, l, (let z = length-append es (e ∷ []) in omega arith), subst (λ xs. (ending_store (first_store o) (trace o xs).history r.loc.0).version ≢ r.version) (sym (take-append-le i es (e ∷ []) b)) ne))
 
   step_gives : (since : Moment) (reads : List Seen) (step : HangStep) → StepGives o es since reads step → StepGives o es' since reads step
   step_gives since reads (hang.Set j) f = tt
@@ -213,12 +213,12 @@ module _ (o : Opening) (es : List Event) (w : IsSchedule o es) (k : ℕ) (within
     halts_gives : Goal (Halt k) x.task (halted s)
     halts_gives = go s.work refl
       where
-        at : (y : Work) → is_idle s.work ≡ false → ((t : Option Task) (m : Moment) → WorkGives o (es ++ Halt k ∷ []) k t m y) → (b : Bool) → Goal (Halt k) x.task (if b then ended s else record s { work = y })
-        at y i f true = record { works = tt; said = λ u q. said_one (Halt k) x.task (since (ended s)) told.Halted u tt q }
+        at : (y : Work) → is_idle s.work ≡ false → ((t : Option Task) (m : Moment) → WorkGives o (es ++ Halt k ∷ []) k t m y) → (b : Bool) → Goal (Halt k) x.task (if b then seat_halted s else record s { work = y })
+        at y i f true = record { works = tt; said = λ u q. said_one (Halt k) x.task (since (seat_halted s)) told.Halted u tt q }
         at y i f false = record { works = f x.task (since (record s { work = y })); said = λ u q. no_answer u i q }
 
-        swap_or : is_idle s.work ≡ false → (b : Bool) → Goal (Halt k) x.task (if b then ended s else s)
-        swap_or i true = record { works = tt; said = λ u q. said_one (Halt k) x.task (since (ended s)) told.Halted u tt q }
+        swap_or : is_idle s.work ≡ false → (b : Bool) → Goal (Halt k) x.task (if b then seat_halted s else s)
+        swap_or i true = record { works = tt; said = λ u q. said_one (Halt k) x.task (since (seat_halted s)) told.Halted u tt q }
         swap_or i false = unmoved (Halt k) refl x.task refl
 
         go : (y : Work) → s.work ≡ y → Goal (Halt k) x.task (halted_by s y)
@@ -243,7 +243,7 @@ module _ (o : Opening) (es : List Event) (w : IsSchedule o es) (k : ℕ) (within
     tells_by : (r : Seat) (v : Told) → r.work ≡ work.Idle → r.told ≡ Some v → ToldGives o more k x.task (since r) v → Steps r
     tells_by r v i z f = record { works = subst (WorkGives o more k x.task (since r)) (sym i) tt; said = λ u q. said_one (Step k) x.task (since r) v u f (sym z ∙ q) }
 
-    looked_gives : is_idle s.work ≡ false → (l : Look) (b : Bool) (n : LookNext) → Steps (after (record s { work = work.Look (looks_on l n) }) (told_by b n))
+    looked_gives : is_idle s.work ≡ false → (l : Look) (b : Bool) (n : LookNext) → Steps (seat_after (record s { work = work.Look (looks_on l n) }) (told_by b n))
     looked_gives i l true n = tells_by _ told.Halted refl refl tt
     looked_gives i l false (looking.Goes step) = goes_by i _ refl tt
     looked_gives i l false (looking.Saw seen) = tells_by _ (told.Seen seen) refl refl tt
@@ -251,15 +251,15 @@ module _ (o : Opening) (es : List Event) (w : IsSchedule o es) (k : ℕ) (within
     abbrev Unchanging : Told → Type 0
     Unchanging t = (m : Moment) → ToldGives o more k x.task m t
 
-    committed_gives : is_idle s.work ≡ false → (c : Commit) (n : Next) → TellsSo Unchanging n → Steps (after (record s { work = work.Commit (gone_on c n) }) (onward_by n))
+    committed_gives : is_idle s.work ≡ false → (c : Commit) (n : Next) → TellsSo Unchanging n → Steps (seat_after (record s { work = work.Commit (gone_on c n) }) (onward_by n))
     committed_gives i c (next.Goes y) f = goes_by i _ refl tt
     committed_gives i c (next.Takes y) f = goes_by i _ refl tt
-    committed_gives i c (next.Tells t) f = let r = after (record s { work = work.Commit (gone_on c (next.Tells t)) }) (onward_by (next.Tells t)) in tells_by r t refl refl (f (since r))
+    committed_gives i c (next.Tells t) f = let r = seat_after (record s { work = work.Commit (gone_on c (next.Tells t)) }) (onward_by (next.Tells t)) in tells_by r t refl refl (f (since r))
 
-    swapped_gives : is_idle s.work ≡ false → (y : Swap) (n : SwapNext) → SwapTellsSo Unchanging n → Steps (after (record s { work = work.Swap (swaps_on y n) }) (onward_of_swap n))
+    swapped_gives : is_idle s.work ≡ false → (y : Swap) (n : SwapNext) → SwapTellsSo Unchanging n → Steps (seat_after (record s { work = work.Swap (swaps_on y n) }) (onward_of_swap n))
     swapped_gives i y (swapping.Goes z) f = goes_by i _ refl tt
     swapped_gives i y (swapping.Takes z) f = goes_by i _ refl tt
-    swapped_gives i y (swapping.Tells t) f = let r = after (record s { work = work.Swap (swaps_on y (swapping.Tells t)) }) (onward_of_swap (swapping.Tells t)) in tells_by r t refl refl (f (since r))
+    swapped_gives i y (swapping.Tells t) f = let r = seat_after (record s { work = work.Swap (swaps_on y (swapping.Tells t)) }) (onward_of_swap (swapping.Tells t)) in tells_by r t refl refl (f (since r))
 
     phases : (p : Phase) → Unchanging (told_of p s.calls)
     phases Active m = tt
@@ -284,7 +284,7 @@ module _ (o : Opening) (es : List Event) (w : IsSchedule o es) (k : ℕ) (within
               let y = up_to i j a in
               rests_on o es (Step k) w k within (ap rests is) r (subst (LeaveGives (run o es) k l.reads.items) z (subst (WorkGives o es k x.task x.listening) is old.works).1 i r (omega arith) g)
 
-      left_gives : (v : Option Seen) → slice_get l.reads.items (next_read l.step) ≡ v → Steps (after (record s { work = work.Leave (leaves_on l (next_read l.step) v) }) (unblocks_or_tells v))
+      left_gives : (v : Option Seen) → slice_get l.reads.items (next_read l.step) ≡ v → Steps (seat_after (record s { work = work.Leave (leaves_on l (next_read l.step) v) }) (unblocks_or_tells v))
       left_gives None g = tells_by _ told.Free refl refl (
         l.reads.items,
         leave_asked,
@@ -311,7 +311,7 @@ module _ (o : Opening) (es : List Event) (w : IsSchedule o es) (k : ℕ) (within
         wait step z = wait_is s ∙ ap work_wait is ∙ ap (hang_wait reads) z
 
         abbrev Gone : HangNext → Seat
-        Gone n = after (record s { work = work.Hang (hangs_on h n) }) (onward_of n)
+        Gone n = seat_after (record s { work = work.Hang (hangs_on h n) }) (onward_of n)
 
         -- a moment is kept anew where the last bit was set alone
         same_since : (r : Seat) (a c : Waiting) → (stand s).wait ≡ a → work_wait r.work ≡ c → listens a c ≡ false → since r ≡ x.listening
@@ -363,16 +363,16 @@ module _ (o : Opening) (es : List Event) (w : IsSchedule o es) (k : ℕ) (within
                 let old : HangPromises o es x.listening reads (hang.Look j step) = subst (HangPromises o es x.listening reads) z (subst (WorkPromises o es x) is (looks_promised o es w k within)) in
                 subst (λ z. NextPromises o more x.listening v.loc (look_next v.loc step z)) (sym found_it)
                 (look_on o es (Step k) w w' k within x.listening (listening_moment o es k) v.loc (read_there o es (Step k) w w' k within reads made.1.0 j v expected) step
-                (ap (λ z. (works (resting s) z).look) is ∙ ap (λ u. (hangs (resting s) reads u).look) z ∙ ap (λ u. Looks (location_of u) (looking.Goes step)) expected) (old.1 v expected))
+                (ap (λ z. (works (resting s) z).look) is ∙ ap (λ u. (stand_hangs (resting s) reads u).look) z ∙ ap (λ u. Looks (location_of u) (looking.Goes step)) expected) (old.1 v expected))
 
             moved_now : (u : Seen) → u.version ≢ v.version → NextPromises o more x.listening v.loc (looking.Saw u) → ReadMoved o more x.listening reads j
             moved_now u ne p =
                 let f = stood_since o more (along o more w') u (x.listening.clock + 1) (let l = behind.past in omega arith)
-                (subst (λ h. (ending (first_store o) h u.loc.0).version ≤ u.version) (sym behind.history) p.1.1) p.1.0 in
-                let at = ap (λ (l : Loc). (ending (first_store o) (history_at o more f.0) l.0).version) (sym p.0) ∙ ap (λ (y : Cell). y.version) f.3 in
+                (subst (λ h. (ending_store (first_store o) h u.loc.0).version ≤ u.version) (sym behind.history) p.1.1) p.1.0 in
+                let at = ap (λ (l : Loc). (ending_store (first_store o) (history_at o more f.0) l.0).version) (sym p.0) ∙ ap (λ (y : Cell). y.version) f.3 in
                 (v, expected, (f.0, (let l = f.1 in omega arith), f.2, λ q. ne (sym at ∙ q)))
 
-            saw : (u : Seen) → NextPromises o more x.listening v.loc (looking.Saw u) → Steps (Gone (looked reads j v.version u.version))
+            saw : (u : Seen) → NextPromises o more x.listening v.loc (looking.Saw u) → Steps (Gone (version_looked reads j v.version u.version))
             saw u p = go (u.version == v.version) refl
               where
                 ends : (n : Option Seen) → Steps (Gone (look_or_end (after_line j) n))
@@ -389,7 +389,7 @@ module _ (o : Opening) (es : List Event) (w : IsSchedule o es) (k : ℕ) (within
             looks_to (looking.Goes t) p = looks_again j t
             looks_to (looking.Saw u) p = saw u p
 
-          looks_gives : (n : Option Seen) → slice_get reads j ≡ n → Steps (Gone (look_of reads j step (found_at (run o es).world (access_of s)) n))
+          looks_gives : (n : Option Seen) → slice_get reads j ≡ n → Steps (Gone (hang_look_next reads j step (found_at (run o es).world (access_of s)) n))
           looks_gives None q = looks_again j step
           looks_gives (Some v) q = looks_to v q (look_next v.loc step (found_at (run o es).world (access_of s))) (promised v q)
 
@@ -398,7 +398,7 @@ module _ (o : Opening) (es : List Event) (w : IsSchedule o es) (k : ℕ) (within
         hang_gives (hang.Look j step) z = looks_gives j step z (slice_get reads j) refl
         hang_gives (hang.Clear j c) z = clears_gives j c z (slice_get reads (after_line j))
 
-      steps_gives : Steps (answer_of s (found_at (run o es).world (access_of s)))
+      steps_gives : Steps (seat_answered s (found_at (run o es).world (access_of s)))
       steps_gives = go s.work refl
         where
           go : (y : Work) → s.work ≡ y → Steps (answer_by s (found_at (run o es).world (access_of s)) y)

@@ -1,7 +1,7 @@
 -- What a seat that looks or hangs knows, and what it has been told.
 use Rattle.kc_machine_history.specs.kc_machine_words.declared.access.Found.TheVariants as found
 use Rattle.std.proofs.Common.{if◌then◌else◌, ◌-◌, ◌==◌, ◌&&◌, Bool, false}
-use Rattle.kc_machine_history.specs.kc_machine_steps.Swaps.{may_swap, owed_next, swap_next_at}
+use Rattle.kc_machine_history.specs.kc_machine_steps.Swaps.{may_swap, swap_owed_next, swap_next_at}
 use Rattle.kc_machine_history.specs.kc_machine_steps.declared.swap.SwapNext.{SwapNext}
 use Rattle.kc_machine_history.specs.kc_machine_steps.declared.swap.SwapNext.TheVariants as swapping
 use Rattle.kc_machine_history.specs.kc_machine_steps.declared.swap.SwapStep.{SwapStep}
@@ -44,15 +44,15 @@ use Rattle.kc_machine_history.specs.kc_machine.Works.{Work}
 use Rattle.kc_machine_history.specs.kc_machine.Works as work
 use Rattle.kc_machine_history.specs.kc_machine.Machine.{Opening, seat_of, run}
 use Rattle.kc_machine_history.specs.kc_machine.Schedules.{IsSchedule}
-use Rattle.kc_machine_history.specs.kc_machine.Seats.{after}
+use Rattle.kc_machine_history.specs.kc_machine.Seats.{seat_after}
 use Rattle.kc_machine_history.specs.kc_machine.declared.seat.Seat.{Seat}
 use Rattle.kc_machine_history.proofs.kc_machine_traces.Follows.{trace_counts}
 use Rattle.kc_machine_history.specs.kc_machine_traces.Claims.{history_at}
 use Rattle.kc_machine_history.specs.kc_machine_traces.Traces.{Moment, Shadow, now, trace}
-use Rattle.kc_machine_history.specs.kc_machine_invariants.Stands.{NoPass, works, resting, hangs}
+use Rattle.kc_machine_history.specs.kc_machine_invariants.Stands.{NoPass, works, resting, stand_hangs}
 use Rattle.kc_machine_history.proofs.Decisions.{moves_by_decision}
 use Rattle.kc_machine_history.specs.Decisions.{MovesByDecision}
-use Rattle.kc_machine_history.specs.Places.{pass_of}
+use Rattle.kc_machine_history.specs.Places.{seat_pass}
 use Rattle.kc_machine_answers.proofs.Lives.{promised_on, step_on}
 use Rattle.kc_machine_answers.proofs.Looking.{seat_met}
 use Rattle.kc_machine_answers.specs.Promised.{IsPromised, StepPromises, IsConfirmed, HangPromises, WorkPromises}
@@ -81,7 +81,7 @@ module _ (o : Opening) (es : List Event) (e : Event) where
       record { past = omega arith; history = ap (λ xs. (trace o xs).history) (take_all ((trace o es).clock + 1) (es ++ e ∷ []) (omega arith)) ∙ q }
 
   -- a seat without a pass decides nothing, and one without a swap swaps nothing
-  pub history_still : pass_of o es (seat_of e) ≡ NoPass → (stand ((run o es).seats (seat_of e))).swap ≡ NoSwap → (trace o (es ++ e ∷ [])).history ≡ (trace o es).history
+  pub history_still : seat_pass o es (seat_of e) ≡ NoPass → (stand ((run o es).seats (seat_of e))).swap ≡ NoSwap → (trace o (es ++ e ∷ [])).history ≡ (trace o es).history
   history_still p u = go (moves_by_decision o es e)
     where
       go : MovesByDecision o es e → (trace o (es ++ e ∷ [])).history ≡ (trace o es).history
@@ -190,7 +190,7 @@ module _ (o : Opening) (es : List Event) (e : Event) (w : IsSchedule o es) (w' :
           let made = subst (ReadsAreMade o.locations) q (reads_made o es w k) in (
             (λ i r b y. confirmed_on x.listening r (p.0 i r b y)),
             λ r y. step_on o es e w w' x.listening r.loc (read_there h.reads.items made.1.0 j r y) step
-                (λ v u. seat_met o es k within v (inr (inr (inr (ap (λ a. met_by_look (works (resting s) a).look) q ∙ ap (λ t. met_by_look (hangs (resting s) h.reads.items t).look) z ∙ u))))) (p.1 r y),
+                (λ v u. seat_met o es k within v (inr (inr (inr (ap (λ a. met_by_look (works (resting s) a).look) q ∙ ap (λ t. met_by_look (stand_hangs (resting s) h.reads.items t).look) z ∙ u))))) (p.1 r y),
           )
       go (hang.Clear j c) z p = tt
   promises_on (work.Leave a) q p = tt
@@ -235,7 +235,7 @@ module _ (o : Opening) (es : List Event) (s : Seat) (y : Shadow) (quiet : s.told
   said_nothing : (t : Told) → s.told ≡ Some t → ToldTrue o es y t
   said_nothing t q = let z : None ≡ Some t = sym quiet ∙ q in absurd (cc)
 
-  pub after_knows : (a : Work) (n : Onward) → GoesOr o es y a n → Knows o es (after (record s { work = a }) n) y
+  pub after_knows : (a : Work) (n : Onward) → GoesOr o es y a n → Knows o es (seat_after (record s { work = a }) n) y
   after_knows a onward.Goes f = record { works = f; said = said_nothing; begun = begun }
   after_knows a onward.Takes f = record { works = f; said = said_nothing; begun = begun }
   after_knows a onward.Unblocks f = record { works = f; said = said_nothing; begun = begun }
@@ -276,7 +276,7 @@ SwapTellsOther (swapping.Tells t) = of_look t ≡ false
 pub swap_tells : (calls : ℕ) (r : Seen) (step : SwapStep) (f : Found) → SwapTellsOther (swap_next_at r calls step f)
 swap_tells calls r step f = go step f
   where
-    owed : (n : ℕ) → SwapTellsOther (owed_next calls n)
+    owed : (n : ℕ) → SwapTellsOther (swap_owed_next calls n)
     owed n = at (n == 0)
       where
         at : (b : Bool) → SwapTellsOther (if b then swapping.Tells (told.Succeeded calls) else swapping.Goes (swap.Signal n))

@@ -3,7 +3,7 @@ use Rattle.std.proofs.Common.{if◌then◌else◌, ◌-◌, ◌==◌, ◌&&◌}
 use Rattle.std.specs.Prelude.{bit_and}
 use Rattle.kc_machine_answers.specs.kc_machine.Seats.{blocked_by}
 use Rattle.kc_machine_answers.specs.kc_machine_steps.Swaps.{may_swap, swap_next_at}
-use Rattle.kc_machine_answers.specs.kc_machine_steps.Swaps.{owed_next as owed_by_it}
+use Rattle.kc_machine_answers.specs.kc_machine_steps.Swaps.{swap_owed_next as owed_by_it}
 use Rattle.kc_machine_answers.specs.kc_machine_steps.declared.swap.SwapNext.{SwapNext}
 use Rattle.kc_machine_answers.specs.kc_machine_steps.declared.swap.SwapNext.TheVariants as swapping
 use Rattle.kc_model.specs.declared.word.Word.TheVariants.{Plain, Ref}
@@ -46,10 +46,10 @@ use Rattle.kc_machine_answers.specs.kc_machine.declared.hang.HangNext.{HangNext}
 use Rattle.kc_machine_answers.specs.kc_machine.declared.hang.HangNext.TheVariants.{Goes, Tells}
 use Rattle.kc_machine_answers.specs.kc_machine.Works as work
 use Rattle.kc_machine_answers.specs.kc_machine.Machine.{Opening, run}
-use Rattle.kc_machine_answers.specs.kc_machine.Seats.{after, blocked_by}
+use Rattle.kc_machine_answers.specs.kc_machine.Seats.{seat_after, blocked_by}
 use Rattle.kc_machine_answers.specs.kc_machine.declared.seat.Seat.{Seat}
 use Rattle.kc_machine_answers.specs.kc_machine_traces.Traces.{listens, Moment}
-use Rattle.kc_machine_answers.specs.kc_machine_invariants.Stands.{Stand, Waits, Waiting, NoWait, Hangs, HangLooks, Leaving, stand, works, resting, commits, owns, aids, hangs}
+use Rattle.kc_machine_answers.specs.kc_machine_invariants.Stands.{Stand, Waits, Waiting, NoWait, Hangs, HangLooks, Leaving, stand, works, resting, stand_commits, owns, stand_aids, stand_hangs}
 use Rattle.kc_machine_answers.proofs.kc_machine_history.Filters.{got}
 use Rattle.kc_machine_answers.proofs.kc_machine_invariants.Searches.{scanned, taken}
 use Rattle.kc_machine_answers.proofs.Hearing.{listens_at, listens_by, IsDeaf}
@@ -69,7 +69,7 @@ work_wait _ = NoWait
 pub wait_is : (s : Seat) → (stand s).wait ≡ work_wait s.work
 wait_is s = go s.work
   where
-    aided : (t : Stand) (r : Reference) (c : Aided) (a : AidStep) → (aids t r c a).wait ≡ t.wait
+    aided : (t : Stand) (r : Reference) (c : Aided) (a : AidStep) → (stand_aids t r c a).wait ≡ t.wait
     aided t r c aid.Hold = refl
     aided t r c aid.Status = refl
     aided t r c (aid.First p) = refl
@@ -87,12 +87,12 @@ wait_is s = go s.work
     owned t i c h (own.Pass p) = refl
     owned t i c h _ = refl
 
-    staged : (t : Stand) (i : Intent) (c : Aided) (x : Stage) → (commits t i c x).wait ≡ t.wait
+    staged : (t : Stand) (i : Intent) (c : Aided) (x : Stage) → (stand_commits t i c x).wait ≡ t.wait
     staged t i c (stage.Scan d worn) = refl
     staged t i c (stage.Take d g) = refl
     staged t i c (stage.Own h step) = owned t i c h step
 
-    waits : (reads : List Seen) (step : HangStep) → (hangs (resting s) reads step).wait ≡ hang_wait reads step
+    waits : (reads : List Seen) (step : HangStep) → (stand_hangs (resting s) reads step).wait ≡ hang_wait reads step
     waits reads (hang.Look j step) = refl
     waits reads _ = refl
 
@@ -261,7 +261,7 @@ module _ (o : Opening) (es more : List Event) (k : ℕ) (s : Seat) (since : Mome
   -- from a look
   module _ (h : Hang) (hangs : s.work ≡ work.Hang h) (at_look : looks h.step ≡ true) where
     abbrev pub Then : HangNext → Seat
-    Then n = after (record s { work = work.Hang (hangs_on h n) }) (onward_of n)
+    Then n = seat_after (record s { work = work.Hang (hangs_on h n) }) (onward_of n)
 
     pub from_look : (n : HangNext) → Keeps o es more k (Then n) → s.blocked ≡ false → (reads : List Seen) → ((Then n).blocked ≡ true → reads ≡ h.reads.items) → Listens o more k (Then n) since reads
     from_look (Goes step) f b reads z = record {

@@ -24,16 +24,16 @@ use borrow.Author.Tests.{eqb-true, eqb-false}
 use Rattle.kc_machine_history.specs.kc_machine_steps.declared.look.LookStep.{LookStep}
 use Rattle.kc_machine_history.specs.kc_machine_steps.declared.look.LookStep.TheVariants as look
 use Rattle.kc_machine_history.proofs.kc_machine.Functions.{put_cases, put_here, put_else}
-use Rattle.kc_machine_history.specs.kc_machine.Machine.{World, State, Opening, put, event_of, seat_of, run}
+use Rattle.kc_machine_history.specs.kc_machine.Machine.{World, State, Opening, put_at_index, event_of, seat_of, run}
 use Rattle.kc_machine_history.specs.kc_machine.Schedules.{IsSchedule}
 use Rattle.kc_machine_history.specs.kc_machine_traces.Claims.{stands_for}
-use Rattle.kc_machine_history.specs.kc_machine_traces.Histories.{ending, cell_of}
+use Rattle.kc_machine_history.specs.kc_machine_traces.Histories.{ending_store, seen_as_cell}
 use Rattle.kc_machine_history.specs.kc_machine_traces.Traces.{Moment, trace, first_store}
 use Rattle.kc_machine_history.proofs.kc_machine_invariants.PoolLaws.{holds_kept}
 use Rattle.kc_machine_history.specs.kc_machine_invariants.Holds.{own_hold}
 use Rattle.kc_machine_history.specs.kc_machine_invariants.Stands.{Owns, Over, At, met_by_look_step, stand}
 use Rattle.kc_machine_history.proofs.Growth.{end_known}
-use Rattle.kc_machine_history.specs.Places.{pass_of}
+use Rattle.kc_machine_history.specs.Places.{seat_pass}
 use Rattle.kc_machine_answers.specs.Promised.{IsPromised, seen_by, IsCurrent, MetIsPromised, SeenIsPromised, StepPromises}
 use Rattle.kc_machine_history.proofs.kc_machine_traces.Always.{passed_installed}
 use Rattle.kc_machine_history.specs.kc_machine_traces.Lines.{IsInstalledLine}
@@ -46,7 +46,7 @@ use Rattle.kc_machine_history.proofs.Changes.{Changes, other, filled, started, i
 use Rattle.kc_machine_history.proofs.Checking.{controls_rise}
 use Rattle.kc_machine_history.proofs.Untouched.{grow}
 use Rattle.kc_machine_history.proofs.Resolving.{words_resolve}
-use Rattle.kc_machine_history.specs.kc_machine_steps.Lines.{is_installed, word_of, succeeds, resolved_version}
+use Rattle.kc_machine_history.specs.kc_machine_steps.Lines.{is_installed, reference_word, succeeds, resolved_version}
 use Rattle.kc_machine_history.specs.kc_machine_steps.Looks.{seen_as}
 use Rattle.kc_machine_history.specs.kc_machine_steps.Passes.{status}
 use Rattle.kc_machine_history.specs.kc_machine_steps.declared.pass.PassStep.TheVariants.{Decide}
@@ -119,7 +119,7 @@ module _ (o : Opening) (es : List Event) (e : Event) (w : IsSchedule o es) (w' :
       mode : Mode
       lines : List Line
       phase : Phase
-      pass : pass_of o es (seat_of e) ≡ Over handle mode lines (At (Decide phase))
+      pass : seat_pass o es (seat_of e) ≡ Over handle mode lines (At (Decide phase))
       was : m.world.status handle.descriptor ≡ status handle.generation Active
       its : d ≡ handle.descriptor
       now_is : v.status d ≡ status handle.generation phase
@@ -136,10 +136,10 @@ module _ (o : Opening) (es : List Event) (e : Event) (w : IsSchedule o es) (w' :
         by l v (released h j p x q r) = inl refl
         by l v (decided h mode xs p q was) = at (d == h.descriptor) refl
           where
-            at : (b : Bool) → (d == h.descriptor) ≡ b → (put m.world.status h.descriptor (status h.generation p) d ≡ m.world.status d) ⊎ DecidedNow (record m.world { status = put m.world.status h.descriptor (status h.generation p) })
+            at : (b : Bool) → (d == h.descriptor) ≡ b → (put_at_index m.world.status h.descriptor (status h.generation p) d ≡ m.world.status d) ⊎ DecidedNow (record m.world { status = put_at_index m.world.status h.descriptor (status h.generation p) })
             at true z =
                 let i = eqb-true d h.descriptor z in
-                inr (record { within = l; handle = h; mode = mode; lines = xs; phase = p; pass = q; was = was; its = i; now_is = ap (put m.world.status h.descriptor (status h.generation p)) i ∙ put_here m.world.status h.descriptor (status h.generation p); words = refl })
+                inr (record { within = l; handle = h; mode = mode; lines = xs; phase = p; pass = q; was = was; its = i; now_is = ap (put_at_index m.world.status h.descriptor (status h.generation p)) i ∙ put_here m.world.status h.descriptor (status h.generation p); words = refl })
             at false z = inl (put_else m.world.status h.descriptor (status h.generation p) d (eqb-false d h.descriptor z))
 
         go : (b : Bool) → nat_lt (seat_of e) m.callers ≡ b → ((run o es').world.status d ≡ m.world.status d) ⊎ DecidedNow (run o es').world
@@ -200,7 +200,7 @@ module _ (o : Opening) (es : List Event) (e : Event) (w : IsSchedule o es) (w' :
     module _ (old : MetIsPromised o es since l r) where
       -- it has succeeded now, so it stands in its word, which stands for what the history makes
       module _ (y : DecidedNow o es e w w' d r.handle.generation met.published now v) (won : y.phase ≡ Succeeded) where
-        stands : u.word l.0 ≡ word_of y.handle r.line
+        stands : u.word l.0 ≡ reference_word y.handle r.line
         stands =
             let c = (run_shape o es).2 in
             let b = y.within in
@@ -217,14 +217,14 @@ module _ (o : Opening) (es : List Event) (e : Event) (w : IsSchedule o es) (w' :
         succeeded : IsPromised o (es ++ e ∷ []) since (seen_by v l r (v.status d).phase)
         succeeded = (end_known (first_store o) (trace o (es ++ e ∷ [])).history (seen_by v l r (v.status d).phase) (sym is), low)
           where
-            is : cell_of (seen_by v l r (v.status d).phase) ≡ ending (first_store o) (trace o (es ++ e ∷ [])).history l.0
+            is : seen_as_cell (seen_by v l r (v.status d).phase) ≡ ending_store (first_store o) (trace o (es ++ e ∷ [])).history l.0
             is =
                 let word : v.word l.0 ≡ Ref y.handle.generation d r.line = ap (λ f. f l.0) y.words ∙ stands ∙ ap (λ i. Ref y.handle.generation i r.line) (sym y.its) in
                 sym (ap (stands_for v) word) ∙ words_resolve o (es ++ e ∷ []) w' l.0 there
 
-            low : (ending (first_store o) since.history l.0).version ≤ resolved_version (v.first d r.line) (v.status d).phase
+            low : (ending_store (first_store o) since.history l.0).version ≤ resolved_version (v.first d r.line) (v.status d).phase
             low =
-                let a : (ending (first_store o) since.history l.0).version ≤ resolved_version (u.first d r.line) (u.status d).phase = old.1.1 in
+                let a : (ending_store (first_store o) since.history l.0).version ≤ resolved_version (u.first d r.line) (u.status d).phase = old.1.1 in
                 let p : (u.status d).phase ≡ Active = ap (λ i. (u.status i).phase) y.its ∙ ap (λ (x : Status). x.phase) y.was in
                 let b : resolved_version (u.first d r.line) (u.status d).phase ≡ (v.first d r.line).version = ap (λ q. resolved_version (u.first d r.line) q) p ∙ ap (λ f. (f r.line).version) words.first in
                 let c = no_lower (v.first d r.line) (v.status d).phase in

@@ -14,7 +14,7 @@ use Rattle.kc_machine_history.specs.kc_machine_steps.declared.look.LookNext.TheV
 use Rattle.kc_machine_history.specs.kc_machine.Machine.{World, Opening, found_at, run}
 use Rattle.kc_machine_history.specs.kc_machine.Schedules.{IsSchedule}
 use Rattle.kc_machine_history.specs.kc_machine_traces.Claims.{stands_for}
-use Rattle.kc_machine_history.specs.kc_machine_traces.Histories.{History, Grows, ending, cell_of}
+use Rattle.kc_machine_history.specs.kc_machine_traces.Histories.{History, Grows, ending_store, seen_as_cell}
 use Rattle.kc_machine_history.specs.kc_machine_traces.Traces.{Moment, trace, first_store}
 use Rattle.kc_machine_history.proofs.kc_machine_invariants.PoolLaws.{holds_kept}
 use Rattle.kc_machine_history.specs.kc_machine_invariants.Holds.{held, look_step_hold, look_hold}
@@ -24,10 +24,10 @@ use Rattle.kc_machine_answers.proofs.Lives.{IsMet, step_on, seen_on}
 use Rattle.kc_machine_answers.specs.Promised.{IsPromised, seen_by, StepPromises, NextPromises}
 use Rattle.kc_machine_history.proofs.kc_machine_traces.Always.{references_fit, lines_exist}
 use Rattle.kc_machine_history.proofs.kc_machine_invariants.LifeLaws.{words_published, remembered_published}
-use Rattle.kc_machine_history.specs.kc_machine_invariants.References.{Remembers, met_by_look}
+use Rattle.kc_machine_history.specs.kc_machine_invariants.References.{RemembersReference, met_by_look}
 use Rattle.kc_machine_history.proofs.Untouched.{grow}
 use Rattle.kc_machine_history.proofs.Resolving.{words_resolve}
-use Rattle.kc_machine_history.specs.kc_machine_steps.Looks.{reference_of, seen_at, seen_as, look_access, look_next, load_next}
+use Rattle.kc_machine_history.specs.kc_machine_steps.Looks.{reference_of, seen_with, seen_as, look_access, look_next, load_next}
 use Rattle.kc_machine_history.specs.kc_machine_steps.declared.task.Event.{Event}
 use Rattle.kc_machine_history.proofs.kc_machine_traces.Known.{versions_rise}
 use Rattle.kc_machine_history.proofs.kc_machine_traces.Others.{run_shape}
@@ -38,15 +38,15 @@ module _ (o : Opening) (es : List Event) (w : IsSchedule o es) (since : Moment) 
   now = (trace o es).history
 
   -- what stands now is promised
-  pub stands_now : (r : Seen) → ending (first_store o) now r.loc.0 ≡ cell_of r → IsPromised o es since r
+  pub stands_now : (r : Seen) → ending_store (first_store o) now r.loc.0 ≡ seen_as_cell r → IsPromised o es since r
   stands_now r e =
       let g = subst (λ h. Grows h now) (sym moment.history) (grow o es w since.clock) in
       let up = versions_rise (first_store o) since.history now r.loc.0 g in
-      let v : (ending (first_store o) now r.loc.0).version ≡ r.version = ap (λ (c : Cell). c.version) e in
+      let v : (ending_store (first_store o) now r.loc.0).version ≡ r.version = ap (λ (c : Cell). c.version) e in
       (end_known (first_store o) now r e, omega arith)
 
 -- what a seat remembers was met
-pub seat_met : (o : Opening) (es : List Event) (k : ℕ) → k < o.callers → (r : Reference) → Remembers (stand ((run o es).seats k)) r → IsMet (run o es).world r
+pub seat_met : (o : Opening) (es : List Event) (k : ℕ) → k < o.callers → (r : Reference) → RemembersReference (stand ((run o es).seats k)) r → IsMet (run o es).world r
 seat_met o es k l r h =
     let c = (run_shape o es).2 in
     let b : k < (run o es).callers = omega arith in
@@ -68,7 +68,7 @@ module _ (o : Opening) (es : List Event) (e : Event) (w : IsSchedule o es) (w' :
 
     loads : (v : Word) → u.word l.0 ≡ v → Then (load_next l (found.Word v))
     loads (Plain v x) q =
-        let r = seen_at l v x in
+        let r = seen_with l v x in
         seen_on o es e w w' since l there (Some r) (refl, stands_now o es w since moment r (sym (words_resolve o es w l.0 there) ∙ ap (stands_for u) q))
     loads (Ref g d i) q = on (look.Hold (reference_of g d i)) (λ r z. subst (IsMet u) (same z) (word_met o es l.0 g d i q))
         (λ c. ((references_fit o es l.0 g d i q).2, stands_now o es w since moment (seen_by u l (reference_of g d i) (u.status d).phase) (sym (words_resolve o es w l.0 there) ∙ ap (stands_for u) q)))

@@ -30,7 +30,7 @@ use Rattle.kc_machine_answers.specs.kc_machine.Works.{Work}
 use Rattle.kc_machine_answers.specs.kc_machine.Works as work
 use Rattle.kc_machine_answers.specs.kc_machine.declared.seat.Seat.{Seat}
 use Rattle.kc_machine_answers.specs.kc_machine_traces.Claims.{still_wakes, owed_by}
-use Rattle.kc_machine_answers.specs.kc_machine_invariants.Stands.{Own, NoOwn, Owns, Runs, Waits, Stand, stand, works, resting, commits, owns, aids, hangs}
+use Rattle.kc_machine_answers.specs.kc_machine_invariants.Stands.{Own, NoOwn, Owns, Runs, Waits, Stand, stand, works, resting, stand_commits, owns, stand_aids, stand_hangs}
 
 -- ---- what a work owns
 
@@ -50,7 +50,7 @@ work_own _ = NoOwn
 pub own_is : (s : Seat) → (stand s).own ≡ work_own s.work
 own_is s = go s.work
   where
-    aided : (t : Stand) (h : Handle) (i : Intent) (j : ℕ) (r : Reference) (c : Aided) (a : AidStep) → (aids (record t { own = Waits h i j }) r c a).own ≡ Waits h i j
+    aided : (t : Stand) (h : Handle) (i : Intent) (j : ℕ) (r : Reference) (c : Aided) (a : AidStep) → (stand_aids (record t { own = Waits h i j }) r c a).own ≡ Waits h i j
     aided t h i j r c aid.Hold = refl
     aided t h i j r c aid.Status = refl
     aided t h i j r c (aid.First p) = refl
@@ -68,12 +68,12 @@ own_is s = go s.work
     owned t i c h (own.Aid j r a) = aided t h i j r c a
     owned t i c h _ = refl
 
-    staged : (t : Stand) (i : Intent) (c : Aided) (x : Stage) → t.own ≡ NoOwn → (commits t i c x).own ≡ stage_own i x
+    staged : (t : Stand) (i : Intent) (c : Aided) (x : Stage) → t.own ≡ NoOwn → (stand_commits t i c x).own ≡ stage_own i x
     staged t i c (stage.Scan d worn) e = e
     staged t i c (stage.Take d g) e = e
     staged t i c (stage.Own h step) e = owned t i c h step
 
-    waits : (reads : List Seen) (step : HangStep) → (hangs (resting s) reads step).own ≡ NoOwn
+    waits : (reads : List Seen) (step : HangStep) → (stand_hangs (resting s) reads step).own ≡ NoOwn
     waits reads (hang.Look j step) = refl
     waits reads _ = refl
 

@@ -23,7 +23,7 @@ use Rattle.kc_machine_history.specs.kc_machine_steps.declared.pass.PassStep.TheV
 use Rattle.kc_machine_history.specs.kc_machine_steps.declared.pass.PassNext.TheVariants as pass
 use Rattle.kc_machine_history.specs.kc_machine_commits.declared.commit.OwnStep.TheVariants as own
 use Rattle.kc_machine_history.proofs.kc_machine.Functions.{put_here, put_else}
-use Rattle.kc_machine_history.specs.kc_machine.Machine.{State, Opening, put, put_some, touched, found_at, possible, event_of, run, run_from}
+use Rattle.kc_machine_history.specs.kc_machine.Machine.{State, Opening, put_at_index, put_some, touched, found_at, possible, event_of, run, run_from}
 use Rattle.kc_machine_history.specs.kc_machine.Schedules.{IsSchedule}
 use Rattle.kc_machine_history.specs.kc_machine.Seats.{access_of, is_idle}
 use Rattle.kc_machine_history.specs.kc_machine.Words.{stored_word, stored_status}
@@ -41,7 +41,7 @@ use Rattle.kc_machine_history.proofs.kc_machine_invariants.MadeSteps.{intents_ma
 use Rattle.kc_machine_history.proofs.kc_machine_invariants.Searches.{IsPicked, next_fits}
 use Rattle.kc_machine_history.specs.kc_machine_invariants.Made.{IsWellMadeIntent, IsWellMadeLine, IntentIsMade, line_location}
 use Rattle.kc_machine_history.proofs.kc_machine_steps.Lines.{next_here, picked_yes}
-use Rattle.kc_machine_history.specs.kc_machine_steps.Lines.{has_put, is_installed, picked, next_among, next_line, after_line, word_of}
+use Rattle.kc_machine_history.specs.kc_machine_steps.Lines.{has_put, is_installed, picked, next_among, next_line, after_line, reference_word}
 use Rattle.kc_machine_history.specs.kc_machine_steps.Passes.{status, from_install, install_or_check, check_or_decide, install_access, install_found}
 use Rattle.kc_machine_history.specs.kc_machine_steps.declared.task.Event.{Event}
 use Rattle.kc_machine_history.specs.kc_machine_steps.declared.task.Event.TheVariants.{Step}
@@ -99,23 +99,23 @@ module _ (k : ℕ) (h : Handle) (i : Intent) where
   module _ (m : State) (s : Seat) (b : Bool) (a : Aided) (there : k < m.callers) where
     -- an install that fits
     installs : (j : ℕ) (x : Line) → m.seats k ≡ at_step s i b a h (own.Pass (Install j)) → slice_get xs j ≡ Some x → m.world.word x.seen.loc.0 ≡ Plain x.seen.version x.seen.value → x.seen.loc.0 < m.locations
-        → event_of m (Step k) ≡ record m { world = with_word m.world x.seen.loc.0 (word_of h j); seats = put m.seats k (at_step (made s) i b a h (own.Pass (from_install i.mode xs (after_line j)))) }
+        → event_of m (Step k) ≡ record m { world = with_word m.world x.seen.loc.0 (reference_word h j); seats = put_at_index m.seats k (at_step (made s) i b a h (own.Pass (from_install i.mode xs (after_line j)))) }
     installs j x e f w l =
         step_is m k there (at_step s i b a h (own.Pass (Install j))) e (ap (λ o. possible m (install_access h j o)) f ∙ lt-ltb x.seen.loc.0 m.locations l)
-        ∙ ap (λ o. record m { world = touched m.world (install_access h j o); seats = put m.seats k (at_step (made s) i b a h (after_own_pass i (install_found h i.mode xs j (found_at m.world (install_access h j o)) o))) }) f
+        ∙ ap (λ o. record m { world = touched m.world (install_access h j o); seats = put_at_index m.seats k (at_step (made s) i b a h (after_own_pass i (install_found h i.mode xs j (found_at m.world (install_access h j o)) o))) }) f
         ∙ ap by_word w
         ∙ ap by_test (yes x.seen.version x.seen.value)
       where
         by_word : Word → State
         by_word z = record m {
-          world = record m.world { word = put_some m.world.word x.seen.loc.0 (stored_word (CompareExchange (Plain x.seen.version x.seen.value) (word_of h j)) z) };
-          seats = put m.seats k (at_step (made s) i b a h (after_own_pass i (install_found h i.mode xs j (found.Word z) (Some x))));
+          world = record m.world { word = put_some m.world.word x.seen.loc.0 (stored_word (CompareExchange (Plain x.seen.version x.seen.value) (reference_word h j)) z) };
+          seats = put_at_index m.seats k (at_step (made s) i b a h (after_own_pass i (install_found h i.mode xs j (found.Word z) (Some x))));
         }
 
         by_test : Bool → State
         by_test t = record m {
-          world = record m.world { word = put_some m.world.word x.seen.loc.0 (if t then Some (word_of h j) else None) };
-          seats = put m.seats k (at_step (made s) i b a h (after_own_pass i (if t then pass.Goes (from_install i.mode xs (after_line j)) else pass.Goes (Decide (Failed j)))));
+          world = record m.world { word = put_some m.world.word x.seen.loc.0 (if t then Some (reference_word h j) else None) };
+          seats = put_at_index m.seats k (at_step (made s) i b a h (after_own_pass i (if t then pass.Goes (from_install i.mode xs (after_line j)) else pass.Goes (Decide (Failed j)))));
         }
 
     -- the decision of what is Active
@@ -128,7 +128,7 @@ module _ (k : ℕ) (h : Handle) (i : Intent) where
         ∙ put_here m.world.status h.descriptor (status h.generation Succeeded)
 
     starts : m.seats k ≡ at_step s i b a h own.Start → h.descriptor < m.descriptors
-        → event_of m (Step k) ≡ record m { world = with_status m.world h.descriptor (status h.generation Active); seats = put m.seats k (at_step (made s) i b a h (own.Pass (from_install i.mode xs 0))) }
+        → event_of m (Step k) ≡ record m { world = with_status m.world h.descriptor (status h.generation Active); seats = put_at_index m.seats k (at_step (made s) i b a h (own.Pass (from_install i.mode xs 0))) }
     starts e l = step_is m k there (at_step s i b a h own.Start) e (lt-ltb h.descriptor m.descriptors l)
 
   -- what each line's word says, and where it lies
@@ -157,11 +157,11 @@ module _ (k : ℕ) (h : Handle) (i : Intent) where
         let w = f.words j x (omega arith) got.1 in
         let g = installs m s b a f.there j x at got.1 w (f.below j x got.1) in
         let up : after_line j ≡ j + 1 = after_one j (omega (arith, q, most)) in
-        let v : State = record m { world = with_word m.world x.seen.loc.0 (word_of h j); seats = put m.seats k (at_step (made s) i b a h (own.Pass (from_install i.mode xs (after_line j)))) } in
+        let v : State = record m { world = with_word m.world x.seen.loc.0 (reference_word h j); seats = put_at_index m.seats k (at_step (made s) i b a h (own.Pass (from_install i.mode xs (after_line j)))) } in
         let on = rest_costs n (j + 1) (omega (arith, q)) v (made s) b a
         (put_here m.seats k (at_step (made s) i b a h (own.Pass (from_install i.mode xs (after_line j)))) ∙ ap (λ z. at_step (made s) i b a h (own.Pass (from_install i.mode xs z))) up)
         (record {
-          words = λ t y l z. put_else m.world.word x.seen.loc.0 (word_of h j) y.seen.loc.0 (let r = lower xs j t x y rise got.1 z (omega (arith, l)) in λ u. absurd (omega (arith, u, r))) ∙ f.words t y (omega (arith, l)) z;
+          words = λ t y l z. put_else m.world.word x.seen.loc.0 (reference_word h j) y.seen.loc.0 (let r = lower xs j t x y rise got.1 z (omega (arith, l)) in λ u. absurd (omega (arith, u, r))) ∙ f.words t y (omega (arith, l)) z;
           below = f.below;
           there = f.there;
           own = f.own;
@@ -194,7 +194,7 @@ puts_cost o es w k h i l q all =
     let l' : k < m.callers = omega (arith, l, c.2) in
     let p = ltb-true h.descriptor m.descriptors (sym (ap (λ x. possible m (access_of x)) e) ∙ (steps_possible o es w k l (ap (λ (x : Seat). is_idle x.work) e)).0) in
     let g = starts k h i m s b a l' e p in
-    let v : State = record m { world = with_status m.world h.descriptor (status h.generation Active); seats = put m.seats k (at_step (made s) i b a h (own.Pass (from_install i.mode i.lines.items 0))) } in
+    let v : State = record m { world = with_status m.world h.descriptor (status h.generation Active); seats = put_at_index m.seats k (at_step (made s) i b a h (own.Pass (from_install i.mode i.lines.items 0))) } in
     let line = λ (t : ℕ) (x : Line) (z : slice_get i.lines.items t ≡ Some x). All-contains (PutsWhereItStands m.world) i.lines.items x all (among i.lines.items t x z) in
     let on = rest_costs k h i made_so.rise made_so.most (λ t x z. (line t x z).0) (length i.lines.items) 0 (omega arith) v (made s) b a
     (put_here m.seats k (at_step (made s) i b a h (own.Pass (from_install i.mode i.lines.items 0))))

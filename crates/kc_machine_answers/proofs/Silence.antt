@@ -16,9 +16,9 @@ use Rattle.kc_machine_answers.specs.kc_machine.Words.{bits_after}
 use Rattle.kc_machine_answers.specs.kc_machine.Works.{Work}
 use Rattle.kc_machine_answers.specs.kc_machine.Works as work
 use Rattle.kc_machine_answers.proofs.kc_machine.Functions.{put_cases, put_here}
-use Rattle.kc_machine_answers.specs.kc_machine.Machine.{World, State, Opening, put, touched, found_at, possible, happened, event_of, seat_of, run}
+use Rattle.kc_machine_answers.specs.kc_machine.Machine.{World, State, Opening, put_at_index, touched, found_at, possible, happened, event_of, seat_of, run}
 use Rattle.kc_machine_answers.specs.kc_machine.Schedules.{IsSchedule}
-use Rattle.kc_machine_answers.specs.kc_machine.Seats.{access_of, work_access, answer_of, is_idle}
+use Rattle.kc_machine_answers.specs.kc_machine.Seats.{access_of, work_access, seat_answered, is_idle}
 use Rattle.kc_machine_answers.specs.kc_machine.declared.seat.Seat.{Seat}
 use Rattle.kc_machine_answers.specs.kc_machine_traces.Claims.{has_bit}
 use Rattle.kc_machine_answers.proofs.kc_machine_traces.Runs.{steps_possible}
@@ -66,7 +66,7 @@ module _ (c : ℕ) (small : c < 64) where
   event_fewer : (m : State) (e : Event) → rests (m.seats (seat_of e)).work ≡ true → Fewer (event_of m e).world m.world
   event_fewer m e q = go (nat_lt (seat_of e) m.callers)
     where
-      step : (k : ℕ) → rests (m.seats k).work ≡ true → (b : Bool) → Fewer (if b then record m { world = touched m.world (access_of (m.seats k)); seats = put m.seats k (answer_of (m.seats k) (found_at m.world (access_of (m.seats k)))) } else m).world m.world
+      step : (k : ℕ) → rests (m.seats k).work ≡ true → (b : Bool) → Fewer (if b then record m { world = touched m.world (access_of (m.seats k)); seats = put_at_index m.seats k (seat_answered (m.seats k) (found_at m.world (access_of (m.seats k)))) } else m).world m.world
       step k q true = work_fewer m.world (m.seats k).caller (m.seats k).calls (m.seats k).work q
       step k q false = λ l b. b
 

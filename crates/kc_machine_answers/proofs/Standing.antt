@@ -17,7 +17,7 @@ use Rattle.kc_machine_history.specs.kc_machine_steps.declared.pass.AfterCheck.Th
 use Rattle.kc_machine_history.specs.kc_machine_steps.declared.aid.AidStep.TheVariants as aid
 use Rattle.kc_machine_history.specs.kc_machine_commits.declared.commit.OwnStep.TheVariants as own
 use Rattle.kc_machine_history.proofs.kc_machine.Functions.{put_cases}
-use Rattle.kc_machine_history.specs.kc_machine.Machine.{World, Opening, run, put}
+use Rattle.kc_machine_history.specs.kc_machine.Machine.{World, Opening, run, put_at_index}
 use Rattle.kc_machine_answers.specs.Met.{StandsIfActive, StepStands, TurnStands, PassStands, MetReferencesStand}
 use Rattle.kc_machine_history.specs.kc_machine_commits.Halts.{halted_pass, halted_aid_pass}
 use Rattle.kc_machine_history.proofs.kc_machine_invariants.Runs.{holds_after}
@@ -37,7 +37,7 @@ use Rattle.kc_machine_history.specs.kc_machine_invariants.Owners.{Follows}
 use Rattle.kc_machine_history.specs.kc_machine_invariants.References.{met_by_pass}
 use Rattle.kc_machine_history.proofs.kc_machine_invariants.Searches.{IsPicked, next_fits}
 use Rattle.kc_machine_history.specs.kc_machine_invariants.Fits.{IsCheckedAt}
-use Rattle.kc_machine_history.specs.kc_machine_steps.Lines.{is_installed, next_line, after_line, word_of}
+use Rattle.kc_machine_history.specs.kc_machine_steps.Lines.{is_installed, next_line, after_line, reference_word}
 use Rattle.kc_machine_history.specs.kc_machine_steps.Passes.{status, from_install, install_or_check, from_check, check_or_decide, from_release, release_or_finish, decided_as, check_drop_next}
 use Rattle.kc_machine_history.specs.kc_machine_steps.declared.task.Event.{Event}
 
@@ -108,7 +108,7 @@ module _ (w : World) (xs : List Line) (m : Mode) where
 
 stands_own : (k : ℕ) {w w' : World} {s s' : Stand} → Effects.Effect k w s w' s' → PassStands w' s.pass → PassStands w' s'.pass
 stands_own k (Effects.start {w} s {h} {i} q e z) f = subst (StepStands (with_status w h.descriptor (status h.generation Active)) i.mode i.lines.items) (sym e) (install_stands (with_status w h.descriptor (status h.generation Active)) i.lines.items i.mode 0)
-stands_own k (Effects.install {w} s {h} {m} {xs} {j} x q a b e z put_in low) f = subst (StepStands (with_word w x.seen.loc.0 (word_of h j)) m xs) (sym e) (install_stands (with_word w x.seen.loc.0 (word_of h j)) xs m (after_line j))
+stands_own k (Effects.install {w} s {h} {m} {xs} {j} x q a b e z put_in low) f = subst (StepStands (with_word w x.seen.loc.0 (reference_word h j)) m xs) (sym e) (install_stands (with_word w x.seen.loc.0 (reference_word h j)) xs m (after_line j))
 stands_own k (Effects.installed {w} s {h} {m} {xs} {j} x q a b e z) f = subst (StepStands w m xs) (sym e) (install_stands w xs m (after_line j))
 stands_own k (Effects.unfit s x a b e) f = tt
 stands_own k (Effects.meets s x a b e) f = tt
@@ -167,7 +167,7 @@ pub record Standing (n m : ℕ) (w : World) (at : ℕ → Stand) : Type 0 where
 
 module _ (n m k : ℕ) (l : k < n) {w w' : World} (at : ℕ → Stand) {s' : Stand} (e : Effects.Effect k w (at k) w' s') (f : Standing n m w at) where
   -- what is decided isn't Active
-  undecided : (r : Reference) (h : Handle) (i : ℕ) (p : Phase) → word_of h i ≡ Ref r.handle.generation r.handle.descriptor r.line → IsDecided w h p → w.status r.handle.descriptor ≡ status r.handle.generation Active → ⊥
+  undecided : (r : Reference) (h : Handle) (i : ℕ) (p : Phase) → reference_word h i ≡ Ref r.handle.generation r.handle.descriptor r.line → IsDecided w h p → w.status r.handle.descriptor ≡ status r.handle.generation Active → ⊥
   undecided r h i p q d act =
       let same : h.descriptor ≡ r.handle.descriptor = cc in
       d.1 (ap (λ (v : Status). v.phase) (sym d.0 ∙ ap w.status same ∙ act))
@@ -203,7 +203,7 @@ module _ (n m k : ℕ) (l : k < n) {w w' : World} (at : ℕ → Stand) {s' : Sta
       go (Over h mode xs (At (Decide p))) y o = tt
       go (Over h mode xs (At (Release i p))) y o = tt
 
-  pub standing_effect : Standing n m w' (put at k s')
+  pub standing_effect : Standing n m w' (put_at_index at k s')
   standing_effect = record {
     facts = facts_effect n m k l at e f.facts;
     stands = λ j b. put_cases (λ t. PassStands w' t.pass) at k s' j (λ q. stands_own k e (on k l)) (λ ne. on j b);

@@ -1,6 +1,6 @@
 -- What a step makes of what its seat knows.
 use Rattle.kc_machine_answers.proofs.Knowing.{SwapTellsOther, swap_tells}
-use Rattle.kc_machine_history.specs.kc_machine_steps.Swaps.{onward_of as onward_of_swap}
+use Rattle.kc_machine_history.specs.kc_machine_steps.Swaps.{onward_of_swap}
 use Rattle.kc_machine_history.specs.kc_machine_steps.Swaps.{swap_after, swap_next}
 use Rattle.kc_machine_history.specs.kc_machine_steps.declared.swap.Swap.{Swap}
 use Rattle.kc_machine_history.specs.kc_machine_steps.declared.swap.SwapNext.{SwapNext}
@@ -28,7 +28,7 @@ use Rattle.kc_machine_history.specs.kc_machine_commits.Commits.{commit_after, on
 use Rattle.kc_machine_history.specs.kc_machine_steps.Looks.{look_access, look_next, look_after, looks_on, look_tells, told_by}
 use Rattle.kc_machine_history.specs.kc_machine.Works as work
 use Rattle.kc_machine_history.specs.kc_machine.Machine.{Opening, found_at, run}
-use Rattle.kc_machine_history.specs.kc_machine.Seats.{access_of, work_access, answer_of, answer_by, after, is_idle}
+use Rattle.kc_machine_history.specs.kc_machine.Seats.{access_of, work_access, seat_answered, answer_by, seat_after, is_idle}
 use Rattle.kc_machine_history.specs.kc_machine.declared.seat.Seat.{Seat}
 use Rattle.kc_machine_history.specs.kc_machine_traces.Traces.{Shadow, shadow_after, now, trace}
 use Rattle.kc_machine_history.specs.kc_machine_invariants.Stands.{works, resting}
@@ -91,12 +91,12 @@ module _ (o : Opening) (es : List Event) (e : Event) (k : ℕ) (g : Going o es e
           same_seen : {a b : Seen} → told.Seen a ≡ told.Seen b → a ≡ b
           same_seen q = cc
 
-    looks : Then (after (record s { work = work.Look (look_after a f) }) (look_tells a f))
-    looks = goes_by o es e k g stepped (ap is_idle is) (work.Look (look_after a f)) (look_tells a f) (good (after (record s { work = work.Look (look_after a f) }) (look_tells a f)) a.halted (look_next a.loc a.step f) promise)
+    looks : Then (seat_after (record s { work = work.Look (look_after a f) }) (look_tells a f))
+    looks = goes_by o es e k g stepped (ap is_idle is) (work.Look (look_after a f)) (look_tells a f) (good (seat_after (record s { work = work.Look (look_after a f) }) (look_tells a f)) a.halted (look_next a.loc a.step f) promise)
 
   -- a commit
-  commits : (c d : Commit) (n : Next) → s.work ≡ work.Commit c → TellsOther n → Then (after (record s { work = work.Commit d }) (onward_by n))
-  commits c d n is p = goes_by o es e k g stepped (ap is_idle is) (work.Commit d) (onward_by n) (good (shadow_after (now (trace o es)) e s (after (record s { work = work.Commit d }) (onward_by n)) x) n p)
+  commits : (c d : Commit) (n : Next) → s.work ≡ work.Commit c → TellsOther n → Then (seat_after (record s { work = work.Commit d }) (onward_by n))
+  commits c d n is p = goes_by o es e k g stepped (ap is_idle is) (work.Commit d) (onward_by n) (good (shadow_after (now (trace o es)) e s (seat_after (record s { work = work.Commit d }) (onward_by n)) x) n p)
     where
       good : (y : Shadow) (n : Next) → TellsOther n → GoesOr o es' y (work.Commit d) (onward_by n)
       good y (next.Goes z) p = record { promises = tt; asked = tt; hears = tt }
@@ -104,23 +104,23 @@ module _ (o : Opening) (es : List Event) (e : Event) (k : ℕ) (g : Going o es e
       good y (next.Tells u) p = other_told o es' y u p
 
   -- a leave
-  leaves : (a b : Leave) (n : Option Seen) → s.work ≡ work.Leave a → Then (after (record s { work = work.Leave b }) (unblocks_or_tells n))
-  leaves a b n is = goes_by o es e k g stepped (ap is_idle is) (work.Leave b) (unblocks_or_tells n) (good (shadow_after (now (trace o es)) e s (after (record s { work = work.Leave b }) (unblocks_or_tells n)) x) n)
+  leaves : (a b : Leave) (n : Option Seen) → s.work ≡ work.Leave a → Then (seat_after (record s { work = work.Leave b }) (unblocks_or_tells n))
+  leaves a b n is = goes_by o es e k g stepped (ap is_idle is) (work.Leave b) (unblocks_or_tells n) (good (shadow_after (now (trace o es)) e s (seat_after (record s { work = work.Leave b }) (unblocks_or_tells n)) x) n)
     where
       good : (y : Shadow) (n : Option Seen) → GoesOr o es' y (work.Leave b) (unblocks_or_tells n)
       good y None = other_told o es' y told.Free refl
       good y (Some z) = record { promises = tt; asked = tt; hears = tt }
 
   -- a swap
-  swaps : (a b : Swap) (n : SwapNext) → s.work ≡ work.Swap a → SwapTellsOther n → Then (after (record s { work = work.Swap b }) (onward_of_swap n))
-  swaps a b n is p = goes_by o es e k g stepped (ap is_idle is) (work.Swap b) (onward_of_swap n) (good (shadow_after (now (trace o es)) e s (after (record s { work = work.Swap b }) (onward_of_swap n)) x) n p)
+  swaps : (a b : Swap) (n : SwapNext) → s.work ≡ work.Swap a → SwapTellsOther n → Then (seat_after (record s { work = work.Swap b }) (onward_of_swap n))
+  swaps a b n is p = goes_by o es e k g stepped (ap is_idle is) (work.Swap b) (onward_of_swap n) (good (shadow_after (now (trace o es)) e s (seat_after (record s { work = work.Swap b }) (onward_of_swap n)) x) n p)
     where
       good : (y : Shadow) (n : SwapNext) → SwapTellsOther n → GoesOr o es' y (work.Swap b) (onward_of_swap n)
       good y (swapping.Goes z) p = record { promises = tt; asked = tt; hears = tt }
       good y (swapping.Takes z) p = record { promises = tt; asked = tt; hears = tt }
       good y (swapping.Tells u) p = other_told o es' y u p
 
-  pub steps : Then (answer_of s f)
+  pub steps : Then (seat_answered s f)
   steps = go s.work refl
     where
       go : (a : Work) → s.work ≡ a → Then (answer_by s f a)

@@ -7,7 +7,7 @@ use Rattle.kc_machine_history.specs.kc_machine_steps.declared.task.Told.TheVaria
 use Rattle.kc_machine_history.specs.kc_machine.Machine.{Opening, run}
 use Rattle.kc_machine_history.specs.kc_machine.Schedules.{IsSchedule}
 use Rattle.kc_machine_history.specs.kc_machine_traces.Claims.{LooksTellWhatStood, HungReadsStood, StoodSince, history_at}
-use Rattle.kc_machine_history.specs.kc_machine_traces.Histories.{ending}
+use Rattle.kc_machine_history.specs.kc_machine_traces.Histories.{ending_store}
 use Rattle.kc_machine_history.specs.kc_machine_traces.Traces.{Moment, trace, first_store}
 use Rattle.kc_machine_history.proofs.Growing.{stood_since}
 use Rattle.kc_machine_answers.proofs.Events.{event_known}
@@ -35,7 +35,7 @@ module _ (o : Opening) where
     stood : (m : Moment) (r : Seen) → IsBehind o es m → IsPromised o es m r → StoodSince o es m.clock r
     stood m r b p =
         let f = stood_since o es (along o es w) r (m.clock + 1) (let l = b.past in omega arith)
-        (subst (λ h. (ending (first_store o) h r.loc.0).version ≤ r.version) (sym b.history) p.1) p.0 in
+        (subst (λ h. (ending_store (first_store o) h r.loc.0).version ≤ r.version) (sym b.history) p.1) p.0 in
         (f.0, (let l = f.1 in omega arith), f.2, f.3)
 
     pub looks_stood : LooksTellWhatStood o es
@@ -48,4 +48,4 @@ module _ (o : Opening) where
         let h = ((knows es w k b).said told.Hung said).hung refl in
         let y = h.1 r c in
         let f = stood ((trace o es).shadows k).listening y.0 h.0 y.3 in
-        (f.0, f.1, f.2, ap (λ (l : Loc). (ending (first_store o) (history_at o es f.0) l.0).version) (sym y.1) ∙ ap (λ (z : Cell). z.version) f.3 ∙ y.2)
+        (f.0, f.1, f.2, ap (λ (l : Loc). (ending_store (first_store o) (history_at o es f.0) l.0).version) (sym y.1) ∙ ap (λ (z : Cell). z.version) f.3 ∙ y.2)

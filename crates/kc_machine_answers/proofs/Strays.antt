@@ -15,7 +15,7 @@ use Rattle.kc_machine_history.proofs.kc_machine_invariants.PoolLaws.{strays_kept
 use Rattle.kc_machine_history.specs.kc_machine_invariants.Holds.{Stray, Strays, own_hold, dropping, step_hold, check_hold, aid_step_hold, aid_hold, look_step_hold, look_hold}
 use Rattle.kc_machine_history.specs.kc_machine_invariants.Stands.{Stand, Own, NoOwn, Owns, Runs, Waits, At, Meets, Ends, Leaves, Passing, NoPass, Over, Aiding, NoAid, Aids, Passes, Looking, NoLook, Looks, stand, met_by_look_step}
 use Rattle.kc_machine_history.proofs.kc_machine_invariants.LifeLaws.{remembered_published, statuses_behind}
-use Rattle.kc_machine_history.specs.kc_machine_invariants.References.{Remembers, met_by_step, met_by_pass, met_by_aid, met_by_look}
+use Rattle.kc_machine_history.specs.kc_machine_invariants.References.{RemembersReference, met_by_step, met_by_pass, met_by_aid, met_by_look}
 use Rattle.kc_machine_history.specs.kc_machine_steps.declared.task.Event.{Event}
 
 -- a reference to generation g of descriptor d
@@ -82,7 +82,7 @@ module _ (d g : ℕ) where
   by_own (Runs h i) q = absurd (cc)
   by_own (Waits h i j) q = absurd (cc)
 
-  remembered : (s : Stand) → Strays s d g → (r : Reference) × Names d g r × Remembers s r
+  remembered : (s : Stand) → Strays s d g → (r : Reference) × Names d g r × RemembersReference s r
   remembered s (inl q) = absurd (by_own s.own q)
   remembered s (inr (inl q)) = let a = by_pass s.pass q in (a.0, a.1, inl a.2)
   remembered s (inr (inr (inl q))) = let a = by_aid s.aid q in (a.0, a.1, inr (inl a.2))

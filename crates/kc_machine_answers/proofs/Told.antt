@@ -1,5 +1,5 @@
 -- A commit that is told Crossed was crossed.
-use Rattle.kc_machine_history.specs.kc_machine_steps.Swaps.{ends_at_once, exchange_next, may_swap, onward_of as onward_of_swap, swap_next_at, swap_onward}
+use Rattle.kc_machine_history.specs.kc_machine_steps.Swaps.{ends_at_once, exchange_next, may_swap, onward_of_swap, swap_next_at, swap_onward}
 use Rattle.kc_machine_history.specs.kc_machine_steps.declared.swap.SwapNext.TheVariants as swapping
 use Rattle.kc_machine_history.specs.kc_machine_steps.declared.swap.TheConstants.{MOST_SWAPS}
 use Rattle.kc_machine_history.specs.kc_machine_steps.declared.swap.SwapStep.{SwapStep}
@@ -46,7 +46,7 @@ use Rattle.kc_machine_history.specs.kc_machine.Works as work
 use Rattle.kc_machine_history.proofs.kc_machine.Functions.{put_here}
 use Rattle.kc_machine_history.specs.kc_machine.Machine.{State, Opening, event_of, found_at, seat_of, run}
 use Rattle.kc_machine_history.specs.kc_machine.Schedules.{IsSchedule}
-use Rattle.kc_machine_history.specs.kc_machine.Seats.{access_of, work_access, is_idle, after, answer_by, answer_of, begun, begun_idle, working, hanging, halted, halted_by, ended}
+use Rattle.kc_machine_history.specs.kc_machine.Seats.{access_of, work_access, is_idle, seat_after, answer_by, seat_answered, begun, begun_idle, working, hanging, halted, halted_by, seat_halted}
 use Rattle.kc_machine_history.specs.kc_machine.declared.seat.Seat.{Seat}
 use Rattle.kc_machine_answers.proofs.Crossed.{before, seats_on, longer, there, moment_on, crossing_were_crossed}
 use Rattle.kc_machine_answers.proofs.Decided.{Decides, status_came}
@@ -55,10 +55,10 @@ use Rattle.kc_machine_answers.specs.Crosses.{IsCrossed, CrossedSince, CrossesHav
 use Rattle.kc_machine_answers.specs.SwapCrosses.{SwapIsCrossed, SwapCrossedSince, SwapCrossesHaveACause}
 use Rattle.kc_machine_history.specs.kc_machine_traces.Traces.{Moment, trace}
 use Rattle.kc_machine_history.specs.kc_machine_invariants.Holds.{Proper, own_hold}
-use Rattle.kc_machine_history.specs.kc_machine_invariants.Stands.{Stand, At, Own as Owning, NoOwn, Owns, Runs, Waits, stand, works, resting, commits}
+use Rattle.kc_machine_history.specs.kc_machine_invariants.Stands.{Stand, At, Own as Owning, NoOwn, Owns, Runs, Waits, stand, works, resting, stand_commits}
 use Rattle.kc_machine_history.proofs.Knew.{at_work}
 use Rattle.kc_machine_history.proofs.Successes.{Stays, Starts, moves, kept}
-use Rattle.kc_machine_history.specs.Decisions.{own_of}
+use Rattle.kc_machine_history.specs.Decisions.{seat_own}
 use Rattle.kc_machine_history.specs.Places.{began}
 use Rattle.kc_machine_history.proofs.kc_machine_traces.PassWords.{over_owners}
 use Rattle.kc_machine_history.proofs.kc_machine_invariants.LifeLaws.{phase_known, owners_differ}
@@ -71,15 +71,15 @@ use Rattle.kc_machine_history.proofs.kc_machine_traces.Joins.{run-append, every,
 use Rattle.kc_machine_history.proofs.kc_machine_traces.Onward.{IsIntentOf, Left}
 use Rattle.kc_machine_history.specs.kc_machine_traces.Swaps.{swap_at}
 use Rattle.kc_machine_history.proofs.kc_machine_traces.Others.{run_shape, event_in, event_else}
-use Rattle.kc_machine_history.specs.kc_machine_traces.Entries.{by, by as entries_by, own_intent}
+use Rattle.kc_machine_history.specs.kc_machine_traces.Entries.{placed_by, placed_by as entries_by, own_intent}
 
 -- ---- what a seat is to do is what it was asked
 
-pub intent_asked : (o : Opening) (es : List Event) → IsSchedule o es → (k : ℕ) (t : Task) (i : Intent) → k < o.callers → own_intent (own_of o es k) ≡ Some i → ((trace o es).shadows k).task ≡ Some t → IsIntentOf t i
+pub intent_asked : (o : Opening) (es : List Event) → IsSchedule o es → (k : ℕ) (t : Task) (i : Intent) → k < o.callers → own_intent (seat_own o es k) ≡ Some i → ((trace o es).shadows k).task ≡ Some t → IsIntentOf t i
 intent_asked o es w k t i l q e =
     let s = (run o es).seats k in
     let y = at_work s i q in
-    let z = subst (λ v. Left (run o es).world k s.calls t s.told v (by k ((trace o es).shadows k).begun.history) (by k (trace o es).history)) y.work ((kept o k l es w).left t e) in
+    let z = subst (λ v. Left (run o es).world k s.calls t s.told v (placed_by k ((trace o es).shadows k).begun.history) (placed_by k (trace o es).history)) y.work ((kept o k l es w).left t e) in
     subst (IsIntentOf t) y.intent z.1
 
 owns_task : (x : Owning) (h : Handle) (i : Intent) → task_of x ≡ Some (h, i) → (own_hold x ≡ Proper h.descriptor h.generation) × (own_intent x ≡ Some i)
@@ -101,7 +101,7 @@ owns_task x h i = go x
 -- its owner's commit was crossed
 abbrev StatusCaused : Opening → List Event → Type 0
 StatusCaused o es = (k i d g : ℕ) (f : Footprint) (m : Mode) → k < o.callers → ((trace o es).shadows k).task ≡ Some (task.Commit f m)
-    → (run o es).world.status d ≡ record { generation = g; phase = Crossed i } → OwnsLife (run o es) k d g → is_filling (own_of o es k) ≡ false → CrossedSince o es k m (lines_of f) i
+    → (run o es).world.status d ≡ record { generation = g; phase = Crossed i } → OwnsLife (run o es) k d g → is_filling (seat_own o es k) ≡ false → CrossedSince o es k m (lines_of f) i
 
 module _ (o : Opening) (es : List Event) (e : Event) where
   since_on : (k : ℕ) (l : k < o.callers) → Stays o es e k l → (m : Mode) (xs : List Line) (i : ℕ) → CrossedSince o es k m xs i → CrossedSince o (es ++ e ∷ []) k m xs i
@@ -110,7 +110,7 @@ module _ (o : Opening) (es : List Event) (e : Event) where
       let n = longer o es e in
       (a, omega (arith, s, b), omega (arith, n, c), moment_on o es e a m xs i c x)
 
-  module _ (w : IsSchedule o es) (k i d g : ℕ) (f : Footprint) (m : Mode) (l : k < o.callers) (asked : ((trace o es).shadows k).task ≡ Some (task.Commit f m)) (owned : OwnsLife (run o es) k d g) (started : is_filling (own_of o es k) ≡ false) where
+  module _ (w : IsSchedule o es) (k i d g : ℕ) (f : Footprint) (m : Mode) (l : k < o.callers) (asked : ((trace o es).shadows k).task ≡ Some (task.Commit f m)) (owned : OwnsLife (run o es) k d g) (started : is_filling (seat_own o es k) ≡ false) where
     -- it is decided so
     by_decision : seat_of e < (run o es).callers → Decides (run o es).world (stand ((run o es).seats (seat_of e))).pass d g i → CrossedSince o es k m (lines_of f) i
     by_decision y z =
@@ -120,13 +120,13 @@ module _ (o : Opening) (es : List Event) (e : Event) where
         let r = over_owners o es (seat_of e) z.handle z.mode z.lines y (At (Decide (Crossed i)), z.over) z.was in
         let t = owns_task (stand ((run o es).seats r.0)).own z.handle (intent_of z.mode z.lines) r.2 in
         let same : r.0 ≡ k = owners_differ o es r.0 k z.handle.descriptor z.handle.generation z.handle.generation r.1 (there o es e k l) t.0 mine in
-        let u : intent_of z.mode z.lines ≡ intent_of m (lines_of f) = intent_asked o es w k (task.Commit f m) (intent_of z.mode z.lines) l (subst (λ j. own_intent (own_of o es j) ≡ Some (intent_of z.mode z.lines)) same t.1) asked in
+        let u : intent_of z.mode z.lines ≡ intent_of m (lines_of f) = intent_asked o es w k (task.Commit f m) (intent_of z.mode z.lines) l (subst (λ j. own_intent (seat_own o es j) ≡ Some (intent_of z.mode z.lines)) same t.1) asked in
         (p.0, p.3 k l mine started, p.1, subst (λ (v : Intent). IsCrossed (run o (take p.0 es)).world v.mode v.lines.items i) u p.2)
 
   statuses_on : IsSchedule o es → StatusCaused o es → StatusCaused o (es ++ e ∷ [])
   statuses_on w old k i d g f m l asked st owns started = go (status_came (run o es) e d g i (sym (ap (λ (n : State). n.world.status d) (run-append o es (e ∷ []))) ∙ st))
     where
-      on : ((run o es).world.status d).generation ≡ g → (((trace o es).shadows k).task ≡ Some (task.Commit f m) → OwnsLife (run o es) k d g → is_filling (own_of o es k) ≡ false → CrossedSince o es k m (lines_of f) i) → CrossedSince o (es ++ e ∷ []) k m (lines_of f) i
+      on : ((run o es).world.status d).generation ≡ g → (((trace o es).shadows k).task ≡ Some (task.Commit f m) → OwnsLife (run o es) k d g → is_filling (seat_own o es k) ≡ false → CrossedSince o es k m (lines_of f) i) → CrossedSince o (es ++ e ∷ []) k m (lines_of f) i
       on level c = let b = before o es e k l d g level owns started in since_on k l b.stays m (lines_of f) i (c (sym b.stays.task ∙ asked) b.owned b.begun_so)
 
       go : ((run o es).world.status d ≡ record { generation = g; phase = Crossed i }) ⊎ ((seat_of e < (run o es).callers) × Decides (run o es).world (stand ((run o es).seats (seat_of e))).pass d g i) → CrossedSince o (es ++ e ∷ []) k m (lines_of f) i
@@ -187,7 +187,7 @@ module _ (s : Seat) (i : ℕ) where
   abbrev Came : Found → Type 0
   Came f = ToldSo s ⊎ ((c : Commit) × (s.work ≡ work.Commit c) × Drops c i) ⊎ Exchanges f
 
-  told_on : (v : Found) (x : Work) (n : Onward) → (n ≡ onward.Tells (told.Crossed i) → Came v) → ToldSo (after (record s { work = x }) n) → Came v
+  told_on : (v : Found) (x : Work) (n : Onward) → (n ≡ onward.Tells (told.Crossed i) → Came v) → ToldSo (seat_after (record s { work = x }) n) → Came v
   told_on v x onward.Goes f q = inl q
   told_on v x onward.Takes f q = inl q
   told_on v x onward.Unblocks f q = inl q
@@ -209,7 +209,7 @@ module _ (s : Seat) (i : ℕ) where
   gives r (found.Second c) q = absurd (cc)
   gives r (found.Callers c) q = absurd (cc)
 
-  answer_came : (f : Found) → ToldSo (answer_of s f) → Came f
+  answer_came : (f : Found) → ToldSo (seat_answered s f) → Came f
   answer_came f = go s.work refl
     where
       looks : (b : Bool) (n : LookNext) → told_by b n ≡ onward.Tells (told.Crossed i) → Came f
@@ -254,11 +254,11 @@ module _ (s : Seat) (i : ℕ) where
   halted_came : ToldSo (halted s) → ToldSo s
   halted_came = go s.work
     where
-      ends_or : (x : Work) (b : Bool) → ToldSo (if b then ended s else record s { work = x }) → ToldSo s
+      ends_or : (x : Work) (b : Bool) → ToldSo (if b then seat_halted s else record s { work = x }) → ToldSo s
       ends_or x true q = absurd (cc)
       ends_or x false q = q
 
-      ends_or_stays : (b : Bool) → ToldSo (if b then ended s else s) → ToldSo s
+      ends_or_stays : (b : Bool) → ToldSo (if b then seat_halted s else s) → ToldSo s
       ends_or_stays true q = absurd (cc)
       ends_or_stays false q = q
 
@@ -290,7 +290,7 @@ event_came m e k i = go (k == seat_of e) refl
 swap_asked : (o : Opening) (es : List Event) (e : Event) → IsSchedule o es → (k : ℕ) (t : Task) → k < o.callers → ((trace o es).shadows k).task ≡ Some t → (i : ℕ) → (x : Exchanges ((run o es).seats k) i (finds (run o es) k)) → t ≡ task.Swap x.0 x.1
 swap_asked o es e w k t l asked i x =
     let s = (run o es).seats k in
-    (subst (λ v. Left (run o es).world k s.calls t s.told v (by k ((trace o es).shadows k).begun.history) (by k (trace o es).history)) x.2 ((kept o k l es w).left t asked)).1
+    (subst (λ v. Left (run o es).world k s.calls t s.told v (placed_by k ((trace o es).shadows k).begun.history) (placed_by k (trace o es).history)) x.2 ((kept o k l es w).left t asked)).1
 
 -- who begins a task is told nothing
 begins_untold : (o : Opening) (es : List Event) (e : Event) (k : ℕ) (l : k < o.callers) (i : ℕ) → Starts o es e k l → ((run o (es ++ e ∷ [])).seats k).told ≡ Some (told.Crossed i) → ⊥
@@ -311,7 +311,7 @@ crosses_on o es e w old k i f m l asked q = go (moves o es k l e)
 
     drops : ((trace o es).shadows k).task ≡ Some (task.Commit f m) → (c : Commit) → s.work ≡ work.Commit c → Drops c i → CrossedSince o es k m (lines_of f) i
     drops asked c y (h, z) =
-        let t : stand s ≡ record (record (resting s) { halted = c.halted }) { own = Owns h c.intent (own.Drop (Crossed i)) } = ap (works (resting s)) y ∙ ap (commits (record (resting s) { halted = c.halted }) c.intent c.copy) z in
+        let t : stand s ≡ record (record (resting s) { halted = c.halted }) { own = Owns h c.intent (own.Drop (Crossed i)) } = ap (works (resting s)) y ∙ ap (stand_commits (record (resting s) { halted = c.halted }) c.intent c.copy) z in
         let owns = ap (λ (x : Stand). own_hold x.own) t in
         let known = phase_known o es k h.descriptor h.generation (Crossed i) (there o es e k l) owns (ap (λ (x : Stand). phase_read x.own x.pass) t) in
         statuses_caused o es w k i h.descriptor h.generation f m l asked known.0 owns (ap (λ (x : Stand). is_filling x.own) t)

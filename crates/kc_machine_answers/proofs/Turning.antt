@@ -18,7 +18,7 @@ use Rattle.kc_machine_history.specs.kc_machine_commits.declared.commit.Commit.{C
 use Rattle.kc_machine_history.specs.kc_machine_steps.Looks.{look_halted, look_halted_at, halts_at_once}
 use Rattle.kc_machine_history.specs.kc_machine.Works as work
 use Rattle.kc_machine_history.specs.kc_machine.Machine.{Opening, run}
-use Rattle.kc_machine_history.specs.kc_machine.Seats.{is_idle, begun, begun_idle, working, halted, halted_by, ended}
+use Rattle.kc_machine_history.specs.kc_machine.Seats.{is_idle, begun, begun_idle, working, halted, halted_by, seat_halted}
 use Rattle.kc_machine_history.specs.kc_machine.Seats.{hanging as hanging_of}
 use Rattle.kc_machine_history.specs.kc_machine.declared.seat.Seat.{Seat}
 use Rattle.kc_machine_history.specs.kc_machine_traces.Traces.{Shadow, with_task, shadow_after, now, trace}
@@ -52,8 +52,8 @@ module _ (o : Opening) (es : List Event) (e : Event) (k : ℕ) (g : Going o es e
       behind : is_some y.task ≡ true → IsBehind o es' y.begun
       behind a = subst (IsBehind o es') (sym same.1) (behind_on o es e x.begun (g.known.begun (sym (ap is_some same.0) ∙ a)))
 
-    ends : Then (ended s)
-    ends = record { works = idle_works o es' (y (ended s)); said = λ u q. subst (ToldTrue o es' (y (ended s))) (told_same q) (other_told o es' (y (ended s)) told.Halted refl); begun = behind (ended s) }
+    ends : Then (seat_halted s)
+    ends = record { works = idle_works o es' (y (seat_halted s)); said = λ u q. subst (ToldTrue o es' (y (seat_halted s))) (told_same q) (other_told o es' (y (seat_halted s)) told.Halted refl); begun = behind (seat_halted s) }
       where
         told_same : {a b : Told} → ◌≡◌ {A = Option Told} (Some a) (Some b) → a ≡ b
         told_same q = cc
@@ -78,15 +78,15 @@ module _ (o : Opening) (es : List Event) (e : Event) (k : ℕ) (g : Going o es e
     pub halts : Then (halted s)
     halts = go s.work refl
       where
-        look_halts : (a : Look) → s.work ≡ work.Look a → (b : Bool) → halts_at_once a.step ≡ b → Then (if b then ended s else record s { work = work.Look (look_halted a) })
+        look_halts : (a : Look) → s.work ≡ work.Look a → (b : Bool) → halts_at_once a.step ≡ b → Then (if b then seat_halted s else record s { work = work.Look (look_halted a) })
         look_halts a q true z = ends
         look_halts a q false z = turns (work.Look (look_halted a)) (ap is_idle q) (drops a q a.step z)
 
-        commit_halts : (c : Commit) → s.work ≡ work.Commit c → (b : Bool) → Then (if b then ended s else record s { work = work.Commit (commit_halted c) })
+        commit_halts : (c : Commit) → s.work ≡ work.Commit c → (b : Bool) → Then (if b then seat_halted s else record s { work = work.Commit (commit_halted c) })
         commit_halts c q true = ends
         commit_halts c q false = turns (work.Commit (commit_halted c)) (ap is_idle q) (record { promises = tt; asked = tt; hears = tt })
 
-        swap_halts : (b : Bool) → Then (if b then ended s else s)
+        swap_halts : (b : Bool) → Then (if b then seat_halted s else s)
         swap_halts true = ends
         swap_halts false = stays o es e k g
 

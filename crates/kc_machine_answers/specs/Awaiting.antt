@@ -8,7 +8,7 @@ use Rattle.kc_machine_answers.specs.kc_machine.Waits.{Hang}
 use Rattle.kc_machine_answers.specs.kc_machine.Works as work
 use Rattle.kc_machine_answers.specs.kc_machine.Machine.{State, Opening, run}
 use Rattle.kc_machine_answers.specs.kc_machine_traces.Claims.{IsAwake, has_bit, WakeIsToCome}
-use Rattle.kc_machine_answers.specs.kc_machine_traces.Histories.{ending}
+use Rattle.kc_machine_answers.specs.kc_machine_traces.Histories.{ending_store}
 use Rattle.kc_machine_answers.specs.kc_machine_traces.Traces.{Moment, now, trace, first_store}
 
 -- ---- whose bits are set
@@ -29,7 +29,7 @@ RegisteredStayCovered o es = (k i : ℕ) (h : Hang) (r : Seen) → k < o.callers
 -- ---- what was put since a moment
 
 abbrev pub version_at : Opening → Moment → Seen → ℕ
-version_at o m r = (ending (first_store o) m.history r.loc.0).version
+version_at o m r = (ending_store (first_store o) m.history r.loc.0).version
 
 abbrev pub at_version : Seen → ℕ → Seen
 at_version r v = record r { version = v }

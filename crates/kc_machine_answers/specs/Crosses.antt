@@ -17,8 +17,8 @@ use Rattle.kc_machine_history.specs.kc_machine_steps.declared.task.Told.TheVaria
 use Rattle.kc_machine_history.specs.kc_machine.Machine.{World, Opening, run}
 use Rattle.kc_machine_history.specs.kc_machine_traces.Traces.{trace}
 use Rattle.kc_machine_history.specs.kc_machine_invariants.Stands.{At, Over}
-use Rattle.kc_machine_history.specs.Decisions.{own_of}
-use Rattle.kc_machine_history.specs.Places.{began, pass_of}
+use Rattle.kc_machine_history.specs.Decisions.{seat_own}
+use Rattle.kc_machine_history.specs.Places.{began, seat_pass}
 use Rattle.kc_machine_history.specs.kc_machine_invariants.Owners.{OwnsLife, is_filling}
 use Rattle.kc_machine_history.specs.kc_machine_steps.Lines.{is_installed, lines_of}
 use Rattle.kc_machine_history.specs.kc_machine_steps.Passes.{status}
@@ -50,11 +50,11 @@ crosses _ = None
 -- so it stood at a moment of the schedule, since the beginning of the task of who owns life h
 abbrev pub WasCrossed : Opening → List Event → Handle → Mode → List Line → ℕ → Type 0
 WasCrossed o es h m xs i = (a : ℕ) × (a ≤ length es) × IsCrossed (run o (take a es)).world m xs i
-    × ((k : ℕ) → k < o.callers → OwnsLife (run o es) k h.descriptor h.generation → is_filling (own_of o es k) ≡ false → began o es k ≤ a)
+    × ((k : ℕ) → k < o.callers → OwnsLife (run o es) k h.descriptor h.generation → is_filling (seat_own o es k) ≡ false → began o es k ≤ a)
 
 -- where a pass is to decide Crossed at a line, it was crossed there
 abbrev pub CrossingPassesWereCrossed : Opening → List Event → Type 0
-CrossingPassesWereCrossed o es = (j i : ℕ) (h : Handle) (m : Mode) (xs : List Line) (q : PassStep) → j < o.callers → pass_of o es j ≡ Over h m xs (At q) → crosses q ≡ Some i → WasCrossed o es h m xs i
+CrossingPassesWereCrossed o es = (j i : ℕ) (h : Handle) (m : Mode) (xs : List Line) (q : PassStep) → j < o.callers → seat_pass o es j ≡ Over h m xs (At q) → crosses q ≡ Some i → WasCrossed o es h m xs i
 
 -- so it stood at a moment since the task of seat k began
 abbrev pub CrossedSince : Opening → List Event → ℕ → Mode → List Line → ℕ → Type 0

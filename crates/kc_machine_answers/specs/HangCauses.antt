@@ -6,12 +6,12 @@ use Rattle.kc_machine_answers.specs.kc_machine_steps.declared.task.Task.TheVaria
 use Rattle.kc_machine_answers.specs.kc_machine_steps.declared.task.Told.TheVariants as told
 use Rattle.kc_machine_answers.specs.kc_machine.Machine.{Opening, run}
 use Rattle.kc_machine_answers.specs.kc_machine_traces.Claims.{has_bit, history_at}
-use Rattle.kc_machine_answers.specs.kc_machine_traces.Histories.{ending}
+use Rattle.kc_machine_answers.specs.kc_machine_traces.Histories.{ending_store}
 use Rattle.kc_machine_answers.specs.kc_machine_traces.Traces.{Moment, trace, first_store}
 
 -- behind the event at a moment, another version than the read's stood once at its location
 abbrev pub OtherStood : Opening → List Event → Moment → Seen → Type 0
-OtherStood o es since r = (i : ℕ) × (since.clock < i) × (i ≤ length es) × ((ending (first_store o) (history_at o es i) r.loc.0).version ≢ r.version)
+OtherStood o es since r = (i : ℕ) × (since.clock < i) × (i ≤ length es) × ((ending_store (first_store o) (history_at o es i) r.loc.0).version ≢ r.version)
 
 -- read c is one of which another version stood
 abbrev pub ReadMoved : Opening → List Event → Moment → List Seen → ℕ → Type 0

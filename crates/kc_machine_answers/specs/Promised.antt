@@ -17,12 +17,12 @@ use Rattle.kc_machine_history.specs.kc_machine.declared.hang.HangStep.TheVariant
 use Rattle.kc_machine_history.specs.kc_machine.Works.{Work}
 use Rattle.kc_machine_history.specs.kc_machine.Works as work
 use Rattle.kc_machine_history.specs.kc_machine.Machine.{World, Opening, run}
-use Rattle.kc_machine_history.specs.kc_machine_traces.Histories.{ending, IsKnown}
+use Rattle.kc_machine_history.specs.kc_machine_traces.Histories.{ending_store, IsKnown}
 use Rattle.kc_machine_history.specs.kc_machine_traces.Traces.{Moment, Shadow, trace, first_store}
 
 -- the history made it, and no earlier than what stood at a moment
 abbrev pub IsPromised : Opening → List Event → Moment → Seen → Type 0
-IsPromised o es since r = IsKnown (first_store o) (trace o es).history r × ((ending (first_store o) since.history r.loc.0).version ≤ r.version)
+IsPromised o es since r = IsKnown (first_store o) (trace o es).history r × ((ending_store (first_store o) since.history r.loc.0).version ≤ r.version)
 
 -- what a reference stands for at location l, by a phase
 abbrev pub seen_by : World → Loc → Reference → Phase → Seen

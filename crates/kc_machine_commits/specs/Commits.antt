@@ -241,8 +241,8 @@ with_step (Scan d worn) t = Scan d worn
 with_step (Take d g) t = Take d g
 with_step (Own h step) t = Own h t
 
-abbrev pub stepped : Commit → OwnStep → Commit
-stepped c t = record c { stage = with_step c.stage t }
+abbrev pub commit_stepped : Commit → OwnStep → Commit
+commit_stepped c t = record c { stage = with_step c.stage t }
 
 -- descriptor and generation
 abbrev pub handle_of : Stage → Option (ℕ × ℕ)

@@ -8,7 +8,7 @@ ghost use Rattle.kc_machine_steps.specs.declared.aid.AidStep.TheVariants as aid;
 ghost use Rattle.kc_machine_steps.specs.Lines.{after_line};
 ghost use Rattle.kc_machine_steps.specs.Passes.{from_check, from_install, from_release, install_next, check_next, decide_next, pass_next};
 ghost use Rattle.kc_machine_steps.specs.Aids.{aid_next};
-ghost use Rattle.kc_machine_commits.specs.Commits.{after_scan, scan_next, take_next, fill_next, owed_next, resumed, aid_or_back, told_of, finished, after_own_pass, wake_next, loaded, onward_by, gone_on, commit_onward, commit_after, owned, stepped};
+ghost use Rattle.kc_machine_commits.specs.Commits.{after_scan, scan_next, take_next, fill_next, owed_next, resumed, aid_or_back, told_of, finished, after_own_pass, wake_next, loaded, onward_by, gone_on, commit_onward, commit_after, owned, commit_stepped};
 
 use crate::commit::{At, Commit, Place};
 use kc_machine_steps::{
@@ -43,7 +43,7 @@ fn told_of(phase: Phase, calls: u64) -> Told
 impl Commit {
     fn fill(&mut self, line: u32)
         requires { owned self.old.stage ≡ true }
-        ensures { self.new ≡ stepped self.old (fill_next self.old.intent.lines.items line) }
+        ensures { self.new ≡ commit_stepped self.old (fill_next self.old.intent.lines.items line) }
     {
         match self.intent.lines.as_slice().get(line as usize) {
             Some(_) => {
@@ -57,7 +57,7 @@ impl Commit {
     // The signals that are owed, then the drop.
     fn owe(&mut self, owed: u64)
         requires { owned self.old.stage ≡ true }
-        ensures { self.new ≡ stepped self.old (owed_next owed) }
+        ensures { self.new ≡ commit_stepped self.old (owed_next owed) }
     {
         if owed == 0 {
             self.phase = Phase::Succeeded;
@@ -70,7 +70,7 @@ impl Commit {
 
     fn resume(&mut self, line: u32)
         requires { owned self.old.stage ≡ true }
-        ensures { self.new ≡ stepped self.old (resumed self.old.halted line) }
+        ensures { self.new ≡ commit_stepped self.old (resumed self.old.halted line) }
     {
         if self.halted {
             self.phase = Phase::Halted;
@@ -84,7 +84,7 @@ impl Commit {
     // The wakes at the put locations, then the signals and the drop.
     fn finish(&mut self, phase: Phase)
         requires { owned self.old.stage ≡ true }
-        ensures { self.new ≡ stepped self.old (finished self.old.intent phase) }
+        ensures { self.new ≡ commit_stepped self.old (finished self.old.intent phase) }
     {
         self.phase = phase;
         self.at = At::Drop;
@@ -104,7 +104,7 @@ impl Commit {
 
     fn to_check(&mut self, from: u32)
         requires { owned self.old.stage ≡ true }
-        ensures { self.new ≡ stepped self.old (own.Pass (from_check self.old.intent.mode self.old.intent.lines.items from)) }
+        ensures { self.new ≡ commit_stepped self.old (own.Pass (from_check self.old.intent.mode self.old.intent.lines.items from)) }
     {
         match next_line(
             Pick::Checked,
@@ -125,7 +125,7 @@ impl Commit {
 
     fn to_install(&mut self, from: u32)
         requires { owned self.old.stage ≡ true }
-        ensures { self.new ≡ stepped self.old (own.Pass (from_install self.old.intent.mode self.old.intent.lines.items from)) }
+        ensures { self.new ≡ commit_stepped self.old (own.Pass (from_install self.old.intent.mode self.old.intent.lines.items from)) }
     {
         match next_line(
             Pick::Installed,
@@ -143,7 +143,7 @@ impl Commit {
 
     fn to_release(&mut self, from: u32, phase: Phase)
         requires { owned self.old.stage ≡ true }
-        ensures { self.new ≡ stepped self.old (after_own_pass self.old.intent (from_release self.old.intent.mode self.old.intent.lines.items from phase)) }
+        ensures { self.new ≡ commit_stepped self.old (after_own_pass self.old.intent (from_release self.old.intent.mode self.old.intent.lines.items from phase)) }
     {
         match next_line(
             Pick::Installed,
@@ -162,7 +162,7 @@ impl Commit {
 
     fn to_decide(&mut self, phase: Phase)
         requires { owned self.old.stage ≡ true }
-        ensures { self.new ≡ stepped self.old (own.Pass (Decide phase)) }
+        ensures { self.new ≡ commit_stepped self.old (own.Pass (Decide phase)) }
     {
         self.phase = phase;
         self.at = At::Decide;
@@ -170,7 +170,7 @@ impl Commit {
 
     pub(crate) fn to_aid(&mut self, line: u32, met: Reference)
         requires { owned self.old.stage ≡ true }
-        ensures { self.new ≡ stepped self.old (own.Aid line met aid.Hold) }
+        ensures { self.new ≡ commit_stepped self.old (own.Aid line met aid.Hold) }
     {
         self.line = line;
         self.met = met;
@@ -180,7 +180,7 @@ impl Commit {
 
     pub(crate) fn to_pass(&mut self, step: PassStep)
         requires { owned self.old.stage ≡ true }
-        ensures { self.new ≡ stepped self.old (own.Pass step) }
+        ensures { self.new ≡ commit_stepped self.old (own.Pass step) }
     {
         match step {
             PassStep::Install { line } => {
@@ -206,7 +206,7 @@ impl Commit {
 
     fn installed(&mut self, handle: Handle, line: u32, found: &Found)
         requires { self.old.stage ≡ Own handle (own.Pass (Install line)) }
-        ensures { self.new ≡ stepped self.old (after_own_pass self.old.intent (install_next handle self.old.intent.mode self.old.intent.lines.items line found.now)) }
+        ensures { self.new ≡ commit_stepped self.old (after_own_pass self.old.intent (install_next handle self.old.intent.mode self.old.intent.lines.items line found.now)) }
     {
         let x = match self.intent.lines.as_slice().get(line as usize) {
             Some(x) => *x,
@@ -238,7 +238,7 @@ impl Commit {
 
     fn checked(&mut self, handle: Handle, line: u32, found: &Found)
         requires { self.old.stage ≡ Own handle (own.Pass (Check line)) }
-        ensures { self.new ≡ stepped self.old (own.Pass (check_next self.old.intent.mode self.old.intent.lines.items line found.now)) }
+        ensures { self.new ≡ commit_stepped self.old (own.Pass (check_next self.old.intent.mode self.old.intent.lines.items line found.now)) }
     {
         let x = match self.intent.lines.as_slice().get(line as usize) {
             Some(x) => *x,
@@ -269,7 +269,7 @@ impl Commit {
 
     fn decided(&mut self, handle: Handle, phase: Phase, found: &Found)
         requires { self.old.stage ≡ Own handle (own.Pass (Decide phase)) }
-        ensures { self.new ≡ stepped self.old (after_own_pass self.old.intent (decide_next self.old.intent.mode self.old.intent.lines.items phase found.now)) }
+        ensures { self.new ≡ commit_stepped self.old (after_own_pass self.old.intent (decide_next self.old.intent.mode self.old.intent.lines.items phase found.now)) }
     {
         if let Found::Status(status) = found {
             self.to_release(0, decided_as(phase, status.phase));
@@ -280,7 +280,7 @@ impl Commit {
     #[inline(never)]
     fn probed(&mut self, handle: Handle, step: PassStep, found: &Found)
         requires { self.old.stage ≡ Own handle (own.Pass step) }
-        ensures { self.new ≡ stepped self.old (after_own_pass self.old.intent (pass_next handle self.old.intent.mode self.old.intent.lines.items step found.now)) }
+        ensures { self.new ≡ commit_stepped self.old (after_own_pass self.old.intent (pass_next handle self.old.intent.mode self.old.intent.lines.items step found.now)) }
     {
         match pass_next(
             handle,
@@ -300,7 +300,7 @@ impl Commit {
     #[inline(never)]
     fn aided(&mut self, handle: Handle, line: u32, met: Reference, step: AidStep, found: &Found)
         requires { self.old.stage ≡ Own handle (own.Aid line met step) }
-        ensures { self.new ≡ stepped (loaded self.old found.now) (aid_or_back self.old.halted line met (aid_next met (loaded self.old found.now).copy step found.now)) }
+        ensures { self.new ≡ commit_stepped (loaded self.old found.now) (aid_or_back self.old.halted line met (aid_next met (loaded self.old found.now).copy step found.now)) }
     {
         self.copy.load(&step, found);
         match self.copy.next(met, &step, found) {
@@ -318,7 +318,7 @@ impl Commit {
 
     fn woke(&mut self, handle: Handle, line: u32, owed: u64, found: &Found)
         requires { self.old.stage ≡ Own handle (own.Wake line owed) }
-        ensures { self.new ≡ stepped self.old (wake_next self.old.intent line owed found.now) }
+        ensures { self.new ≡ commit_stepped self.old (wake_next self.old.intent line owed found.now) }
     {
         if let Found::Callers(callers) = found {
             let owed = owed | *callers;

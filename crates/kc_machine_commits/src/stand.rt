@@ -1,7 +1,7 @@
 //! A commit is put at a stage that was come to outside of it.
 
 ghost use Rattle.std.specs.Prelude.{◌≡◌, ◌≤◌, length, true};
-ghost use Rattle.kc_machine_commits.specs.Commits.{commit_at, owned, stepped};
+ghost use Rattle.kc_machine_commits.specs.Commits.{commit_at, owned, commit_stepped};
 
 use crate::commit::{At, Commit, OwnStep, Place, Stage};
 use kc_machine_steps::copy_lines;
@@ -42,7 +42,7 @@ impl Commit {
 
     fn to_step(&mut self, step: OwnStep)
         requires { owned self.old.stage ≡ true }
-        ensures { self.new ≡ stepped self.old step }
+        ensures { self.new ≡ commit_stepped self.old step }
     {
         match step {
             OwnStep::FillOwner => self.at = At::FillOwner,

@@ -26,9 +26,9 @@ use Rattle.kc_machine_history.proofs.Insertions.{inserted_contains}
 use Rattle.kc_machine_history.proofs.Passes.{HoldsLife, pass_holds}
 use Rattle.kc_machine_history.proofs.Places.{below, has_place, place_was, pass_stays}
 use Rattle.kc_machine_history.specs.Decisions.{Decision}
-use Rattle.kc_machine_history.specs.Insertions.{put_by}
+use Rattle.kc_machine_history.specs.Insertions.{put_by_entry}
 use Rattle.kc_machine_history.specs.Later.{NoneTouchesAbove, DecidesSoon, NothingLaterTouches}
-use Rattle.kc_machine_history.specs.Places.{pass_of, place_of}
+use Rattle.kc_machine_history.specs.Places.{seat_pass, seat_place}
 use Rattle.kc_machine_traces.proofs.Always.{facts_after, passed_installed}
 use Rattle.kc_machine_traces.proofs.Targets.{Target, course}
 use Rattle.kc_machine_traces.specs.Passed.{PassedAreInstalled, gone_by}
@@ -39,7 +39,7 @@ use Rattle.kc_machine_history.specs.kc_machine_invariants.Owners.{Follows, is_fi
 use Rattle.kc_machine_history.specs.kc_machine_invariants.Started.{listed, line_of_words}
 use Rattle.kc_machine_history.proofs.Changes.{Changes, other, filled, started, installed, released, decided, event_changes}
 use Rattle.kc_machine_history.specs.Settled.{Settled, CheckedAreSettled}
-use Rattle.kc_machine_history.specs.kc_machine_steps.Lines.{is_installed, word_of}
+use Rattle.kc_machine_history.specs.kc_machine_steps.Lines.{is_installed, reference_word}
 use Rattle.kc_machine_history.specs.kc_machine_steps.Passes.{status}
 use Rattle.kc_model.specs.declared.footprint.Line.{Line}
 use Rattle.kc_machine_history.specs.kc_machine_steps.declared.pass.PassStep.TheVariants.{Install, Check, CheckHold, CheckStatus, CheckFirst, CheckDrop, Decide, Release}
@@ -81,7 +81,7 @@ gone_all (Meets k r) e = absurd (cc)
 gone_all (Ends p) e = absurd (cc)
 gone_all Leaves e = absurd (cc)
 
-pub same_word : (h g : Handle) (i k : ℕ) → word_of h i ≡ word_of g k → h ≡ g
+pub same_word : (h g : Handle) (i k : ℕ) → reference_word h i ≡ reference_word g k → h ≡ g
 same_word h g i k e =
     let d : h.descriptor ≡ g.descriptor = cc in
     let n : h.generation ≡ g.generation = cc in
@@ -97,22 +97,22 @@ module _ (o : Opening) (es : List Event) where
   m = run o es
 
   -- a pass goes over the last life of its descriptor
-  pub level : (j : ℕ) (h : Handle) (mode : Mode) (xs : List Line) (t : Turn) → j < o.callers → pass_of o es j ≡ Over h mode xs t → (m.world.status h.descriptor).generation ≡ h.generation
+  pub level : (j : ℕ) (h : Handle) (mode : Mode) (xs : List Line) (t : Turn) → j < o.callers → seat_pass o es j ≡ Over h mode xs t → (m.world.status h.descriptor).generation ≡ h.generation
   level j h mode xs t l q =
       let f : HoldsLife (Over h mode xs t) (stand (m.seats j)) = subst (λ p. HoldsLife p (stand (m.seats j))) q (pass_holds (m.seats j)) in
       let c = (run_shape o es).2 in
       held_started o es j h.descriptor h.generation (omega arith) f.0 f.1
 
-  pub target : (j : ℕ) (h : Handle) (mode : Mode) (xs : List Line) (t : Turn) → j < o.callers → pass_of o es j ≡ Over h mode xs t → Target m.world h mode xs
+  pub target : (j : ℕ) (h : Handle) (mode : Mode) (xs : List Line) (t : Turn) → j < o.callers → seat_pass o es j ≡ Over h mode xs t → Target m.world h mode xs
   target j h mode xs t l q =
       let c = (run_shape o es).2 in
       (course m.callers m.descriptors m.world (λ k. stand (m.seats k)) (facts_after o es).copies j (omega arith) h mode xs (over q)).target
     where
-      over : pass_of o es j ≡ Over h mode xs t → goes_over (stand (m.seats j)).pass ≡ Some (h, mode, xs)
+      over : seat_pass o es j ≡ Over h mode xs t → goes_over (stand (m.seats j)).pass ≡ Some (h, mode, xs)
       over q = ap goes_over q
 
   module _ (w : IsSchedule o es) where
-    pub most_lines : (j : ℕ) (h : Handle) (mode : Mode) (xs : List Line) (t : Turn) → j < o.callers → pass_of o es j ≡ Over h mode xs t → length xs ≤ MOST
+    pub most_lines : (j : ℕ) (h : Handle) (mode : Mode) (xs : List Line) (t : Turn) → j < o.callers → seat_pass o es j ≡ Over h mode xs t → length xs ≤ MOST
     most_lines j h mode xs t l q =
         let a = target j h mode xs t l q in
         let b = (started_made o es w h.descriptor (a.status ∙ sym a.control)).most in
@@ -121,7 +121,7 @@ module _ (o : Opening) (es : List Event) where
         omega arith
 
     -- what a placed pass over what is Active installs stands in its word
-    pub stands_installed : (k p : ℕ) (mode : Mode) (xs : List Line) (d : DecidesSoon o es k p mode xs) (x : Line) → Contains xs x → is_installed mode x ≡ true → (i : ℕ) × (slice_get xs i ≡ Some x) × (m.world.word x.seen.loc.0 ≡ word_of d.handle i)
+    pub stands_installed : (k p : ℕ) (mode : Mode) (xs : List Line) (d : DecidesSoon o es k p mode xs) (x : Line) → Contains xs x → is_installed mode x ≡ true → (i : ℕ) × (slice_get xs i ≡ Some x) × (m.world.word x.seen.loc.0 ≡ reference_word d.handle i)
     stands_installed k p mode xs d x c y =
         let g = got xs x c in
         let n = most_lines k d.handle mode xs d.turn d.within d.pass in
@@ -131,7 +131,7 @@ module _ (o : Opening) (es : List Event) where
         (g.0, g.2, f d.active g.0 x (let a = gone_all d.turn z in let b = g.1 in omega arith) g.2 y)
 
     -- a location whose word is no reference to what is Active is settled
-    pub settled_by : (l : ℕ) → ((h : Handle) (i : ℕ) → m.world.word l ≡ word_of h i → m.world.status h.descriptor ≡ status h.generation Active → ⊥) → (p : ℕ) → Settled o es p l
+    pub settled_by : (l : ℕ) → ((h : Handle) (i : ℕ) → m.world.word l ≡ reference_word h i → m.world.status h.descriptor ≡ status h.generation Active → ⊥) → (p : ℕ) → Settled o es p l
     settled_by l f p k q mode xs d b x c y e =
         let s = stands_installed k q mode xs d x c y in
         f d.handle s.0 (ap m.world.word (sym e) ∙ s.2) d.active
@@ -171,9 +171,9 @@ module _ (o : Opening) (es : List Event) (e : Event) where
 
   -- a pass that may decide behind the event might before, over the same life; or it comes to be placed now
   abbrev pub Before : (k p : ℕ) (mode : Mode) (xs : List Line) → Handle → Type 0
-  Before k p mode xs h = ((b : DecidesSoon o es k p mode xs) × (b.handle ≡ h)) ⊎ ((k ≡ seat_of e) × (p ≡ length es) × (place_of o es k ≡ None))
+  Before k p mode xs h = ((b : DecidesSoon o es k p mode xs) × (b.handle ≡ h)) ⊎ ((k ≡ seat_of e) × (p ≡ length es) × (seat_place o es k ≡ None))
 
-  pub was_soon : (k p : ℕ) (mode : Mode) (xs : List Line) (d : DecidesSoon o (es ++ e ∷ []) k p mode xs) (t : Turn) → pass_of o es k ≡ Over d.handle mode xs t → place_of o es k ≡ Some p
+  pub was_soon : (k p : ℕ) (mode : Mode) (xs : List Line) (d : DecidesSoon o (es ++ e ∷ []) k p mode xs) (t : Turn) → seat_pass o es k ≡ Over d.handle mode xs t → seat_place o es k ≡ Some p
       → (b : DecidesSoon o es k p mode xs) × (b.handle ≡ d.handle) × (b.turn ≡ t)
   was_soon k p mode xs d t q z =
       let a = active_back d.handle.descriptor d.handle.generation (level o es k d.handle mode xs t d.within q) (ap (λ (x : State). x.world.status d.handle.descriptor) (sym next) ∙ d.active) in
@@ -182,10 +182,10 @@ module _ (o : Opening) (es : List Event) (e : Event) where
   pub soon_before : (k p : ℕ) (mode : Mode) (xs : List Line) (d : DecidesSoon o (es ++ e ∷ []) k p mode xs) → Before k p mode xs d.handle
   soon_before k p mode xs d = go (place_was o es e k p d.place)
     where
-      placed_now : is_placed (pass_of o (es ++ e ∷ []) k) ≡ true
+      placed_now : is_placed (seat_pass o (es ++ e ∷ []) k) ≡ true
       placed_now = sym (has_place o (es ++ e ∷ []) k) ∙ ap is_some d.place
 
-      at : place_of o es k ≡ Some p → is_placed (pass_of o es k) ≡ true → (h : Handle) × (n : Mode) × (ys : List Line) × (u : Turn) × (pass_of o es k ≡ Over h n ys u) → Before k p mode xs d.handle
+      at : seat_place o es k ≡ Some p → is_placed (seat_pass o es k) ≡ true → (h : Handle) × (n : Mode) × (ys : List Line) × (u : Turn) × (seat_pass o es k ≡ Over h n ys u) → Before k p mode xs d.handle
       at z y (h, r, ys, u, q) =
           let s = pass_stays o es e k h r ys u q y placed_now in
           let same = same_over (sym s.1 ∙ d.pass) in
@@ -195,8 +195,8 @@ module _ (o : Opening) (es : List Event) (e : Event) where
           same_over : {g : Handle} {r' : Mode} {zs : List Line} {v v' : Turn} → Over h r ys v ≡ Over g r' zs v' → (h ≡ g) × (r ≡ r') × (ys ≡ zs)
           same_over q = (cc, cc, cc)
 
-      go : (place_of o es k ≡ Some p) ⊎ ((k ≡ seat_of e) × (p ≡ length es) × (place_of o es k ≡ None)) → Before k p mode xs d.handle
-      go (inl z) = let y = sym (has_place o es k) ∙ ap is_some z in at z y (placed_over (pass_of o es k) y)
+      go : (seat_place o es k ≡ Some p) ⊎ ((k ≡ seat_of e) × (p ≡ length es) × (seat_place o es k ≡ None)) → Before k p mode xs d.handle
+      go (inl z) = let y = sym (has_place o es k) ∙ ap is_some z in at z y (placed_over (seat_pass o es k) y)
       go (inr z) = inr z
 
   -- settled is for good
@@ -215,7 +215,7 @@ module _ (o : Opening) (es : List Event) (e : Event) where
       l = x.seen.loc.0
 
       abbrev Untouched : Placed → Type 0
-      Untouched z = p < z.place → ((r : Seen) → Reads z.entry.footprint r → r.loc.0 ≢ l) × (put_by z l ≡ None)
+      Untouched z = p < z.place → ((r : Seen) → Reads z.entry.footprint r → r.loc.0 ≢ l) × (put_by_entry z l ≡ None)
 
       -- an entry that comes now behind the place of a pass that may still decide
       module _ (b : DecidesSoon o es k p mode xs) (same : b.handle ≡ d.handle) (z : Placed) (u : Decision o es e z) (lt : p < z.place) where
@@ -234,15 +234,15 @@ module _ (o : Opening) (es : List Event) (e : Event) where
                 let n = most_lines o es w (seat_of e) u.handle z.mode u.lines (At (Decide Succeeded)) u.seat u.pass in
                 ch (seat_of e) z.place z.mode u.lines (Decide Succeeded) (record { within = u.seat; handle = u.handle; turn = At (Decide Succeeded); pass = u.pass; place = u.place; active = u.was }) refl g.0 v g.2 t (let q = g.1 in omega arith) k p mode xs b lt x c y (sym i)
 
-        untouched : ((r : Seen) → Reads z.entry.footprint r → r.loc.0 ≢ l) × (put_by z l ≡ None)
-        untouched = (reads, puts (put_by z l) refl)
+        untouched : ((r : Seen) → Reads z.entry.footprint r → r.loc.0 ≢ l) × (put_by_entry z l ≡ None)
+        untouched = (reads, puts (put_by_entry z l) refl)
           where
             reads : (r : Seen) → Reads z.entry.footprint r → r.loc.0 ≢ l
             reads r a i =
                 let v = line_that_reads u.lines r (subst (λ g. Reads g r) u.footprint a) in
                 other_line v.0 v.1 (ap (λ (s : Seen). s.loc.0) v.2 ∙ i)
 
-            puts : (q : Option Put) → put_by z l ≡ q → put_by z l ≡ None
+            puts : (q : Option Put) → put_by_entry z l ≡ q → put_by_entry z l ≡ None
             puts None e = e
             puts (Some a) q =
                 let v = line_that_puts u.lines l (sym (ap (λ (g : Footprint). is_some (put_at g.puts.items l)) u.footprint) ∙ ap is_some q) in
@@ -255,7 +255,7 @@ module _ (o : Opening) (es : List Event) (e : Event) where
           elsewhere : u.seen.loc.0 ≢ l
           elsewhere i =
               let s = stands_installed o es w k p mode xs b x c y in
-              let q : Plain u.seen.version u.seen.value ≡ word_of b.handle s.0 = sym u.was ∙ ap (run o es).world.word i ∙ s.2 in
+              let q : Plain u.seen.version u.seen.value ≡ reference_word b.handle s.0 = sym u.was ∙ ap (run o es).world.word i ∙ s.2 in
               absurd (cc)
 
           footprint : z.entry.footprint ≡ footprint_of (swap_line u.seen u.after ∷ [])
@@ -270,7 +270,7 @@ module _ (o : Opening) (es : List Event) (e : Event) where
               sole_line t (zero, i, q) = q
               sole_line t (suc j, i, q) = absurd (omega arith)
 
-          puts : (t : Bool) → (u.seen.loc.0 == l) ≡ t → put_by z l ≡ None
+          puts : (t : Bool) → (u.seen.loc.0 == l) ≡ t → put_by_entry z l ≡ None
           puts true q = absurd (elsewhere (eqb-true u.seen.loc.0 l q))
           puts false q = ap (λ (g : Footprint). put_at g.puts.items l) footprint ∙ ap (λ t. cond t (Some (record { loc = u.seen.loc; version = u.seen.version; after = u.after })) None) q
 

@@ -10,8 +10,8 @@ use Rattle.kc_machine_traces.specs.kc_machine_invariants.Stands.{Passing, NoPass
 use Rattle.kc_machine_history.proofs.Calls.{own_goes}
 use Rattle.kc_machine_history.proofs.Passes.{HoldsLife, IsFresh, pass_holds}
 use Rattle.kc_machine_history.proofs.Places.{began_at, began_cases, reached_now, placing, has_place, place_was, pass_stays}
-use Rattle.kc_machine_history.specs.Decisions.{own_of, Decision}
-use Rattle.kc_machine_history.specs.Places.{pass_of, place_of, began}
+use Rattle.kc_machine_history.specs.Decisions.{seat_own, Decision}
+use Rattle.kc_machine_history.specs.Places.{seat_pass, seat_place, began}
 use Rattle.kc_machine_traces.proofs.kc_machine_invariants.LifeLaws.{statuses_follow, held_started}
 use Rattle.kc_machine_traces.specs.kc_machine_invariants.Owners.{Follows, OwnsLife, is_filling}
 use Rattle.kc_machine_traces.specs.kc_machine_steps.Lines.{one_more}
@@ -26,8 +26,8 @@ use Rattle.kc_machine_traces.specs.kc_machine_words.declared.words.Phase.TheVari
 
 -- a seat that owns a life which it has started has begun before each placed pass over it
 abbrev pub OwnersBeganBefore : Opening → List Event → Type 0
-OwnersBeganBefore o es = (j k p : ℕ) (h : Handle) (m : Mode) (xs : List Line) (t : Turn) → j < o.callers → k < o.callers → pass_of o es j ≡ Over h m xs t → place_of o es j ≡ Some p
-    → OwnsLife (run o es) k h.descriptor h.generation → is_filling (own_of o es k) ≡ false → began o es k ≤ p
+OwnersBeganBefore o es = (j k p : ℕ) (h : Handle) (m : Mode) (xs : List Line) (t : Turn) → j < o.callers → k < o.callers → seat_pass o es j ≡ Over h m xs t → seat_place o es j ≡ Some p
+    → OwnsLife (run o es) k h.descriptor h.generation → is_filling (seat_own o es k) ≡ false → began o es k ≤ p
 
 same_life : (a b c d : ℕ) → Proper a b ≡ Proper c d → (a ≡ c) × (b ≡ d)
 same_life a b c d q = (cc, cc)
@@ -53,8 +53,8 @@ module _ (o : Opening) (es : List Event) (e : Event) (old : OwnersBeganBefore o 
   reached_on : (k : ℕ) → began o (es ++ e ∷ []) k ≤ length es
   reached_on k = let a = reached_now (trace o es) e (placing o es) k in let b = began_on k in let c = trace_counts o es in omega arith
 
-  module _ (j k p : ℕ) (h : Handle) (mode : Mode) (xs : List Line) (t : Turn) (lj : j < o.callers) (lk : k < o.callers) (over : pass_of o (es ++ e ∷ []) j ≡ Over h mode xs t) (place : place_of o (es ++ e ∷ []) j ≡ Some p)
-      (owns : OwnsLife (run o (es ++ e ∷ [])) k h.descriptor h.generation) (begun : is_filling (own_of o (es ++ e ∷ []) k) ≡ false) where
+  module _ (j k p : ℕ) (h : Handle) (mode : Mode) (xs : List Line) (t : Turn) (lj : j < o.callers) (lk : k < o.callers) (over : seat_pass o (es ++ e ∷ []) j ≡ Over h mode xs t) (place : seat_place o (es ++ e ∷ []) j ≡ Some p)
+      (owns : OwnsLife (run o (es ++ e ∷ [])) k h.descriptor h.generation) (begun : is_filling (seat_own o (es ++ e ∷ []) k) ≡ false) where
     -- who owns it hasn't begun now
     kept : began o (es ++ e ∷ []) k ≡ began o es k
     kept = began_on k ∙ go (began_cases (trace o es) e (placing o es) k)
@@ -62,21 +62,21 @@ module _ (o : Opening) (es : List Event) (e : Event) (old : OwnersBeganBefore o 
         go : (began_at (trace o es) e (placing o es) k ≡ began o es k) ⊎ ((k ≡ seat_of e) × (began_at (trace o es) e (placing o es) k ≡ (trace o es).clock) × IsFresh (stand ((event_of (trace o es).machine e).seats (seat_of e)))) → began_at (trace o es) e (placing o es) k ≡ began o es k
         go (inl q) = q
         go (inr (q, c, f)) =
-            let n : own_hold (own_of o (es ++ e ∷ []) k) ≡ NoHold = ap (λ s. own_hold (stand s).own) (seats_on k) ∙ ap (λ i. own_hold (stand ((event_of m e).seats i)).own) q ∙ ap (λ (n : State). own_hold (stand ((event_of n e).seats (seat_of e))).own) (sym (trace_runs o es)) ∙ ap own_hold f.1 in
+            let n : own_hold (seat_own o (es ++ e ∷ []) k) ≡ NoHold = ap (λ s. own_hold (stand s).own) (seats_on k) ∙ ap (λ i. own_hold (stand ((event_of m e).seats i)).own) q ∙ ap (λ (n : State). own_hold (stand ((event_of n e).seats (seat_of e))).own) (sym (trace_runs o es)) ∙ ap own_hold f.1 in
             let z : Proper h.descriptor h.generation ≡ NoHold = sym owns ∙ n in
             absurd (cc)
 
     -- a place that was there
-    before : place_of o es j ≡ Some p → began o es k ≤ p
-    before was = go (placed_over (pass_of o es j) placed)
+    before : seat_place o es j ≡ Some p → began o es k ≤ p
+    before was = go (placed_over (seat_pass o es j) placed)
       where
-        placed : is_placed (pass_of o es j) ≡ true
+        placed : is_placed (seat_pass o es j) ≡ true
         placed = sym (has_place o es j) ∙ ap is_some was
 
-        placed_on : is_placed (pass_of o (es ++ e ∷ []) j) ≡ true
+        placed_on : is_placed (seat_pass o (es ++ e ∷ []) j) ≡ true
         placed_on = sym (has_place o (es ++ e ∷ []) j) ∙ ap is_some place
 
-        go : (g : Handle) × (n : Mode) × (ys : List Line) × (u : Turn) × (pass_of o es j ≡ Over g n ys u) → began o es k ≤ p
+        go : (g : Handle) × (n : Mode) × (ys : List Line) × (u : Turn) × (seat_pass o es j ≡ Over g n ys u) → began o es k ≤ p
         go (g, n, ys, u, q) = owned (own_goes m e k h.descriptor h.generation (ap (λ s. own_hold (stand s).own) (sym (seats_on k)) ∙ owns))
           where
             same : g ≡ h
@@ -89,7 +89,7 @@ module _ (o : Opening) (es : List Event) (e : Event) (old : OwnersBeganBefore o 
                 let c = (run_shape o es).2 in
                 subst (λ z. (m.world.status z.descriptor).generation ≡ z.generation) same (held_started o es j g.descriptor g.generation (omega arith) f.0 f.1)
 
-            behind : OwnsLife m k h.descriptor h.generation → (b : Bool) → is_filling (own_of o es k) ≡ b → began o es k ≤ p
+            behind : OwnsLife m k h.descriptor h.generation → (b : Bool) → is_filling (seat_own o es k) ≡ b → began o es k ≤ p
             behind own true f =
                 let c = (run_shape o es).2 in
                 let l = subst (λ b. Follows b (m.world.status h.descriptor).generation h.generation) f (statuses_follow o es k h.descriptor h.generation (omega arith) own) in
@@ -99,13 +99,13 @@ module _ (o : Opening) (es : List Event) (e : Event) (old : OwnersBeganBefore o 
 
             owned : ((own_hold (stand (m.seats k)).own ≡ Proper h.descriptor h.generation) × (((event_of m e).seats k).calls ≡ (m.seats k).calls) × (is_filling (stand ((event_of m e).seats k)).own ≡ true → is_filling (stand (m.seats k)).own ≡ true))
                 ⊎ ((own_hold (stand (m.seats k)).own ≡ NoHold) × (((event_of m e).seats k).calls ≡ one_more (m.seats k).calls) × (is_filling (stand ((event_of m e).seats k)).own ≡ true)) → began o es k ≤ p
-            owned (inl z) = behind z.0 (is_filling (own_of o es k)) refl
+            owned (inl z) = behind z.0 (is_filling (seat_own o es k)) refl
             owned (inr z) = let f = z.2 in let g : is_filling (stand ((event_of m e).seats k)).own ≡ false = ap (λ s. is_filling (stand s).own) (sym (seats_on k)) ∙ begun in absurd (cc)
 
     now : began o (es ++ e ∷ []) k ≤ p
     now = go (place_was o es e j p place)
       where
-        go : (place_of o es j ≡ Some p) ⊎ ((j ≡ seat_of e) × (p ≡ length es) × (place_of o es j ≡ None)) → began o (es ++ e ∷ []) k ≤ p
+        go : (seat_place o es j ≡ Some p) ⊎ ((j ≡ seat_of e) × (p ≡ length es) × (seat_place o es j ≡ None)) → began o (es ++ e ∷ []) k ≤ p
         go (inl q) = let a = before q in let b = kept in omega arith
         go (inr q) = let a = q.1 in let b = reached_on k in omega arith
 

@@ -7,7 +7,7 @@ use Rattle.std.specs.Prelude.{slice_get}
 use Rattle.kc_machine_history.specs.kc_machine.Machine.{Opening}
 use Rattle.kc_machine_history.specs.kc_machine.Schedules.{IsSchedule}
 use Rattle.kc_machine_history.proofs.kc_machine_traces.ByPlace.{low}
-use Rattle.kc_machine_history.specs.kc_machine_traces.Histories.{History, putting, cell_of}
+use Rattle.kc_machine_history.specs.kc_machine_traces.Histories.{History, putting, seen_as_cell}
 use Rattle.kc_machine_history.specs.kc_machine_traces.Traces.{trace, first_store, IsHonest}
 use Rattle.kc_machine_history.proofs.Begun.{owners_began_before}
 use Rattle.kc_machine_history.proofs.Filters.{filter_twice}
@@ -58,7 +58,7 @@ module _ (o : Opening) (es : List Event) (w : IsSchedule o es) (k p : ℕ) (mode
     line_low = bounded (first_store o) (begun o es w d.handle mode xs asked).history (trace o es).history p x.seen began_lower (begun_grows o es w d.handle mode xs asked) (line_known_then o es w d.handle mode xs asked i x e honest)
 
     -- at the same version it stands at the place
-    pub line_stands : (stands_at o es p x.seen.loc.0).version ≡ x.seen.version → stands_at o es p x.seen.loc.0 ≡ cell_of x.seen
+    pub line_stands : (stands_at o es p x.seen.loc.0).version ≡ x.seen.version → stands_at o es p x.seen.loc.0 ≡ seen_as_cell x.seen
     line_stands = same_at (first_store o) (begun o es w d.handle mode xs asked).history (trace o es).history p x.seen began_lower (begun_grows o es w d.handle mode xs asked) (line_known_then o es w d.handle mode xs asked i x e honest)
 
 -- ---- one event

@@ -32,10 +32,10 @@ use Rattle.kc_machine_traces.specs.kc_machine.Hangs.{hang_onward, leave_onward}
 use Rattle.kc_machine_traces.specs.kc_machine.Works.{Work}
 use Rattle.kc_machine_traces.specs.kc_machine.Works as work
 use Rattle.kc_machine_traces.specs.kc_machine.Machine.{State, found_at, event_of, seat_of}
-use Rattle.kc_machine_traces.specs.kc_machine.Seats.{access_of, answer_of, answer_by, after, is_idle, begun, begun_idle, working, hanging, halted, halted_by, ended}
+use Rattle.kc_machine_traces.specs.kc_machine.Seats.{access_of, seat_answered, answer_by, seat_after, is_idle, begun, begun_idle, working, hanging, halted, halted_by, seat_halted}
 use Rattle.kc_machine_traces.specs.kc_machine.declared.seat.Seat.{Seat}
 use Rattle.kc_machine_traces.specs.kc_machine_invariants.Holds.{Hold, NoHold, Proper, own_hold}
-use Rattle.kc_machine_traces.specs.kc_machine_invariants.Stands.{stand, works, resting, commits, hangs}
+use Rattle.kc_machine_traces.specs.kc_machine_invariants.Stands.{stand, works, resting, stand_commits, stand_hangs}
 use Rattle.kc_machine_traces.proofs.kc_machine_invariants.Statuses.{owed_started}
 use Rattle.kc_machine_traces.specs.kc_machine_invariants.Owners.{fills, is_filling}
 use Rattle.kc_machine_traces.specs.kc_machine_steps.Swaps.{swap_onward, ends_at_once}
@@ -65,12 +65,12 @@ work_fills _ = false
 own_is : (s : Seat) → (own_hold (stand s).own ≡ work_hold s.work) × (is_filling (stand s).own ≡ work_fills s.work)
 own_is s = go s.work
   where
-    stages : (c : Commit) (x : Stage) → (own_hold (commits (record (resting s) { halted = c.halted }) c.intent c.copy x).own ≡ stage_hold x) × (is_filling (commits (record (resting s) { halted = c.halted }) c.intent c.copy x).own ≡ stage_fills x)
+    stages : (c : Commit) (x : Stage) → (own_hold (stand_commits (record (resting s) { halted = c.halted }) c.intent c.copy x).own ≡ stage_hold x) × (is_filling (stand_commits (record (resting s) { halted = c.halted }) c.intent c.copy x).own ≡ stage_fills x)
     stages c (stage.Scan d worn) = (refl, refl)
     stages c (stage.Take d g) = (refl, refl)
     stages c (stage.Own h step) = let o = owned (record (resting s) { halted = c.halted }) c.intent c.copy h step in (o.0, o.1)
 
-    waits : (reads : List Seen) (step : HangStep) → (own_hold (hangs (resting s) reads step).own ≡ NoHold) × (is_filling (hangs (resting s) reads step).own ≡ false)
+    waits : (reads : List Seen) (step : HangStep) → (own_hold (stand_hangs (resting s) reads step).own ≡ NoHold) × (is_filling (stand_hangs (resting s) reads step).own ≡ false)
     waits reads (hang.Set j) = (refl, refl)
     waits reads (hang.Look j step) = (refl, refl)
     waits reads (hang.Clear j n) = (refl, refl)
@@ -161,18 +161,18 @@ module _ (s : Seat) where
   abbrev SeatOn : Hold → Bool → Seat → Type 0
   SeatOn x was r = OwnedOn x was n (work_hold r.work) (work_fills r.work) r.calls
 
-  after_next : (c : Commit) (x : Stage) (y : Next) → NextOn x n y → SeatOn (stage_hold x) (stage_fills x) (after (record s { work = work.Commit (gone_on c y) }) (onward_by y))
+  after_next : (c : Commit) (x : Stage) (y : Next) → NextOn x n y → SeatOn (stage_hold x) (stage_fills x) (seat_after (record s { work = work.Commit (gone_on c y) }) (onward_by y))
   after_next c x (next.Goes y) f = f
   after_next c x (next.Takes y) f = f
   after_next c x (next.Tells t) f = not_owned NoHold refl
 
-  unowned_on : (x : Hold) (was : Bool) (y : Work) → work_hold y ≡ NoHold → (o : Onward) → SeatOn x was (after (record s { work = y }) o)
+  unowned_on : (x : Hold) (was : Bool) (y : Work) → work_hold y ≡ NoHold → (o : Onward) → SeatOn x was (seat_after (record s { work = y }) o)
   unowned_on x was y e onward.Goes = not_owned (work_hold y) e
   unowned_on x was y e onward.Takes = not_owned (work_hold y) e
   unowned_on x was y e onward.Unblocks = not_owned (work_hold y) e
   unowned_on x was y e (onward.Tells t) = not_owned NoHold refl
 
-  answer_on : (f : Found) → SeatOn (work_hold s.work) (work_fills s.work) (answer_of s f)
+  answer_on : (f : Found) → SeatOn (work_hold s.work) (work_fills s.work) (seat_answered s f)
   answer_on f = go s.work refl
     where
       go : (x : Work) → s.work ≡ x → SeatOn (work_hold x) (work_fills x) (answer_by s f x)
@@ -186,16 +186,16 @@ module _ (s : Seat) where
   halt_on : SeatOn (work_hold s.work) (work_fills s.work) (halted s)
   halt_on = go s.work refl
     where
-      stages : (c : Commit) (x : Stage) → SeatOn (stage_hold x) (stage_fills x) (if unowned x then ended s else record s { work = work.Commit (halted_at c x) })
+      stages : (c : Commit) (x : Stage) → SeatOn (stage_hold x) (stage_fills x) (if unowned x then seat_halted s else record s { work = work.Commit (halted_at c x) })
       stages c (stage.Scan d worn) = not_owned NoHold refl
       stages c (stage.Take d g) = not_owned NoHold refl
       stages c (stage.Own h step) = λ d g q. inl (q, refl, λ f. sym (halted_same step) ∙ f)
 
-      look_or : (y : Work) (b : Bool) → work_hold y ≡ NoHold → SeatOn NoHold false (if b then ended s else record s { work = y })
+      look_or : (y : Work) (b : Bool) → work_hold y ≡ NoHold → SeatOn NoHold false (if b then seat_halted s else record s { work = y })
       look_or y true e = not_owned NoHold refl
       look_or y false e = not_owned (work_hold y) e
 
-      swap_or : (b : Bool) → SeatOn NoHold false s → SeatOn NoHold false (if b then ended s else s)
+      swap_or : (b : Bool) → SeatOn NoHold false s → SeatOn NoHold false (if b then seat_halted s else s)
       swap_or true e = not_owned NoHold refl
       swap_or false e = e
 
@@ -245,7 +245,7 @@ own_goes m e k = go (k == seat_of e) refl
 
     moves : (e : Event) → OwnGoes (m.seats (seat_of e)) (moved m e)
     moves (Begin j t) = seen (m.seats j) (begun (m.seats j) t) (begun_on (m.seats j) t)
-    moves (Step j) = let f = found_at m.world (access_of (m.seats j)) in seen (m.seats j) (answer_of (m.seats j) f) (answer_on (m.seats j) f)
+    moves (Step j) = let f = found_at m.world (access_of (m.seats j)) in seen (m.seats j) (seat_answered (m.seats j) f) (answer_on (m.seats j) f)
     moves (Halt j) = seen (m.seats j) (halted (m.seats j)) (halt_on (m.seats j))
 
     go : (b : Bool) → (k == seat_of e) ≡ b → OwnGoes (m.seats k) ((event_of m e).seats k)

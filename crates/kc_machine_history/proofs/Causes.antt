@@ -39,17 +39,17 @@ use Rattle.kc_machine_history.specs.kc_machine_steps.declared.task.Event.TheVari
 use Rattle.kc_machine_history.specs.kc_machine_steps.declared.swap.SwapNext.TheVariants as swapping
 use Rattle.kc_machine_history.specs.kc_machine_steps.declared.swap.SwapStep.{SwapStep}
 use Rattle.kc_machine_history.specs.kc_machine_steps.declared.swap.SwapStep.TheVariants as swap
-use Rattle.kc_machine_history.specs.kc_machine_steps.Swaps.{ends_at_once, may_swap, owed_next, swap_next_at, swap_onward}
-use Rattle.kc_machine_history.specs.kc_machine_steps.Swaps.{onward_of as onward_of_swap}
+use Rattle.kc_machine_history.specs.kc_machine_steps.Swaps.{ends_at_once, may_swap, swap_owed_next, swap_next_at, swap_onward}
+use Rattle.kc_machine_history.specs.kc_machine_steps.Swaps.{onward_of_swap}
 use Rattle.kc_machine_history.specs.kc_machine.declared.hang.HangStep.TheVariants as hang
 use Rattle.kc_machine_history.specs.kc_machine.declared.hang.HangNext.TheVariants as hanging
-use Rattle.kc_machine_history.specs.kc_machine.Hangs.{hang_next, onward_of, look_of, look_goes_on, look_or_end, clear_or_changed, unblocks_or_tells, next_read}
+use Rattle.kc_machine_history.specs.kc_machine.Hangs.{hang_next, onward_of, hang_look_next, look_goes_on, look_or_end, clear_or_changed, unblocks_or_tells, next_read}
 use Rattle.kc_machine_history.specs.kc_machine.Works.{Work}
 use Rattle.kc_machine_history.specs.kc_machine.Works as work
 use Rattle.kc_machine_history.proofs.kc_machine.Functions.{put_cases, put_here}
 use Rattle.kc_machine_history.specs.kc_machine.Machine.{World, State, Opening, found_at, event_of, seat_of, run}
 use Rattle.kc_machine_history.specs.kc_machine.Schedules.{IsSchedule}
-use Rattle.kc_machine_history.specs.kc_machine.Seats.{access_of, answer_of, answer_by, after, is_idle, begun, halted, halted_by, ended, work_access}
+use Rattle.kc_machine_history.specs.kc_machine.Seats.{access_of, seat_answered, answer_by, seat_after, is_idle, begun, halted, halted_by, seat_halted, work_access}
 use Rattle.kc_machine_history.specs.kc_machine.declared.seat.Seat.{Seat}
 use Rattle.kc_machine_history.specs.kc_machine_traces.Traces.{IsHonest, trace}
 use Rattle.kc_machine_history.specs.kc_machine_invariants.Holds.{NoHold, Proper, own_hold}
@@ -60,7 +60,7 @@ use Rattle.kc_machine_history.proofs.Knew.{at_work}
 use Rattle.kc_machine_history.proofs.Failing.{later_past, failing_on}
 use Rattle.kc_machine_history.proofs.Known.{owner_asked, line_is}
 use Rattle.kc_machine_history.proofs.Missing.{unfit_swap_past}
-use Rattle.kc_machine_history.specs.Causes.{PassesFailByPastLines, PastRead, OwnersFailByPastReads, ToldOfPastReads, IsPast, SwapsToldOfPastReads}
+use Rattle.kc_machine_history.specs.Causes.{PassesFailByPastLines, PastRead, OwnersFailByPastReads, ToldOfPastReads, IsOutdated, SwapsToldOfPastReads}
 use Rattle.kc_machine_history.proofs.kc_machine_invariants.LifeLaws.{owners_differ, statuses_follow, phase_known}
 use Rattle.kc_machine_history.specs.kc_machine_invariants.Owners.{OwnsLife, Follows, is_filling, phase_read}
 use Rattle.kc_machine_history.proofs.Changes.{Changes, other, filled, started, installed, released, decided, event_changes}
@@ -72,7 +72,7 @@ use Rattle.kc_machine_history.proofs.kc_machine_traces.Onward.{Left}
 use Rattle.kc_machine_history.specs.kc_machine_traces.Moments.{BeginsNothing}
 use Rattle.kc_machine_history.specs.kc_machine_traces.Parts.{IsNoStep}
 use Rattle.kc_machine_history.specs.kc_machine_traces.Swaps.{swap_at}
-use Rattle.kc_machine_history.specs.kc_machine_traces.Entries.{by, own_intent}
+use Rattle.kc_machine_history.specs.kc_machine_traces.Entries.{placed_by, own_intent}
 
 -- ---- who is told that it failed stood at its drop, or was to swap and found a word that is another
 
@@ -90,7 +90,7 @@ module _ (s : Seat) (j : ℕ) where
   abbrev FromDrop : Onward → Type 0
   FromDrop n = n ≡ onward.Tells (told.Failed j) → Drops
 
-  told_after : {A : Type 0} (x : Work) (n : Onward) → (n ≡ onward.Tells (told.Failed j) → A) → (after (record s { work = x }) n).told ≡ Some (told.Failed j) → (s.told ≡ Some (told.Failed j)) ⊎ A
+  told_after : {A : Type 0} (x : Work) (n : Onward) → (n ≡ onward.Tells (told.Failed j) → A) → (seat_after (record s { work = x }) n).told ≡ Some (told.Failed j) → (s.told ≡ Some (told.Failed j)) ⊎ A
   told_after x onward.Goes f e = inl e
   told_after x onward.Takes f e = inl e
   told_after x onward.Unblocks f e = inl e
@@ -121,7 +121,7 @@ module _ (s : Seat) (j : ℕ) where
       next_of x (looking.Goes y) = λ e. absurd (cc)
       next_of x (looking.Saw seen) = on (seen.version == x.version)
 
-      go : (o : Option Seen) → FromDrop (onward_of (look_of reads i step f o))
+      go : (o : Option Seen) → FromDrop (onward_of (hang_look_next reads i step f o))
       go None = λ e. absurd (cc)
       go (Some x) = next_of x (look_next x.loc step f)
   by_hang reads (hang.Clear i n) f = go (after_line i) (slice_get reads (after_line i))
@@ -156,7 +156,7 @@ module _ (s : Seat) (j : ℕ) where
   by_stage c d (stage.Take n g) f q = taken (λ y. FromDrop (onward_by y)) (λ a b e. absurd (cc)) (λ a b e. absurd (cc)) (λ h e. absurd (cc)) s.descriptors n g f
   by_stage c d (stage.Own h step) f q = by_own c d h step f q
 
-  owed_on : (owed : ℕ) → onward_of_swap (owed_next s.calls owed) ≡ onward.Tells (told.Failed j) → ⊥
+  owed_on : (owed : ℕ) → onward_of_swap (swap_owed_next s.calls owed) ≡ onward.Tells (told.Failed j) → ⊥
   owed_on owed = go (owed == 0)
     where
       go : (b : Bool) → onward_of_swap (if b then swapping.Tells (told.Succeeded s.calls) else swapping.Goes (swap.Signal owed)) ≡ onward.Tells (told.Failed j) → ⊥
@@ -188,7 +188,7 @@ module _ (s : Seat) (j : ℕ) where
   by_swap r value swap.Wake (found.Second c) q e = absurd (cc)
   by_swap r value (swap.Signal owed) f q e = absurd (owed_on (bit_and owed (owed - 1)) e)
 
-  tells_failed : (f : Found) → (answer_of s f).told ≡ Some (told.Failed j) → (s.told ≡ Some (told.Failed j)) ⊎ Fails f
+  tells_failed : (f : Found) → (seat_answered s f).told ≡ Some (told.Failed j) → (s.told ≡ Some (told.Failed j)) ⊎ Fails f
   tells_failed f = go s.work refl
     where
       go : (x : Work) → s.work ≡ x → (answer_by s f x).told ≡ Some (told.Failed j) → (s.told ≡ Some (told.Failed j)) ⊎ Fails f
@@ -202,11 +202,11 @@ module _ (s : Seat) (j : ℕ) where
   halt_keeps_told : (halted s).told ≡ Some (told.Failed j) → s.told ≡ Some (told.Failed j)
   halt_keeps_told = go s.work refl
     where
-      or_ends : (b : Bool) (x : Work) → (if b then ended s else record s { work = x }).told ≡ Some (told.Failed j) → s.told ≡ Some (told.Failed j)
+      or_ends : (b : Bool) (x : Work) → (if b then seat_halted s else record s { work = x }).told ≡ Some (told.Failed j) → s.told ≡ Some (told.Failed j)
       or_ends true x e = absurd (cc)
       or_ends false x e = e
 
-      or_stays : (b : Bool) → (if b then ended s else s).told ≡ Some (told.Failed j) → s.told ≡ Some (told.Failed j)
+      or_stays : (b : Bool) → (if b then seat_halted s else s).told ≡ Some (told.Failed j) → s.told ≡ Some (told.Failed j)
       or_stays true e = absurd (cc)
       or_stays false e = e
 
@@ -355,8 +355,8 @@ module _ (o : Opening) (es : List Event) (e : Event) (w : IsSchedule o es) (old 
               absurd (cc)
 
     -- what it does is what it was asked
-    left : (x : Work) → Asked → (m.seats k).work ≡ x → Left m.world k (m.seats k).calls t (m.seats k).told x (by k ((trace o es).shadows k).begun.history) (by k (trace o es).history)
-    left x a q = subst (λ y. Left m.world k (m.seats k).calls t (m.seats k).told y (by k ((trace o es).shadows k).begun.history) (by k (trace o es).history)) q ((kept o k l es w).left t a)
+    left : (x : Work) → Asked → (m.seats k).work ≡ x → Left m.world k (m.seats k).calls t (m.seats k).told x (placed_by k ((trace o es).shadows k).begun.history) (placed_by k (trace o es).history)
+    left x a q = subst (λ y. Left m.world k (m.seats k).calls t (m.seats k).told y (placed_by k ((trace o es).shadows k).begun.history) (placed_by k (trace o es).history)) q ((kept o k l es w).left t a)
 
   -- a commit drops, and is to swap nothing
   commit_told : (k : ℕ) (l : k < o.callers) (f : Footprint) (mode : Mode) (j : ℕ) → ((trace o (es ++ e ∷ [])).shadows k).task ≡ Some (task.Commit f mode) → ((run o (es ++ e ∷ [])).seats k).told ≡ Some (told.Failed j) → PastRead o es f j
@@ -373,17 +373,17 @@ module _ (o : Opening) (es : List Event) (e : Event) (w : IsSchedule o es) (old 
       missed a (r, value, q, v, z, p, u) = let y : task.Commit f mode ≡ task.Swap r value = (left k l j (task.Commit f mode) (PastRead o es f j) (swap_at r value swap.Exchange) a q).1 in absurd (cc)
 
   -- a swap finds a word that is another, and owns nothing
-  swap_told : IsHonest o es → (k : ℕ) (l : k < o.callers) (r : Seen) (value j : ℕ) → ((trace o (es ++ e ∷ [])).shadows k).task ≡ Some (task.Swap r value) → ((run o (es ++ e ∷ [])).seats k).told ≡ Some (told.Failed j) → IsPast o es r
-  swap_told hon k l r value j = told_fails k l j (task.Swap r value) (IsPast o es r) (old.swaps k j r value l) (λ a. ⊎_elim (dropped a) (missed a))
+  swap_told : IsHonest o es → (k : ℕ) (l : k < o.callers) (r : Seen) (value j : ℕ) → ((trace o (es ++ e ∷ [])).shadows k).task ≡ Some (task.Swap r value) → ((run o (es ++ e ∷ [])).seats k).told ≡ Some (told.Failed j) → IsOutdated o es r
+  swap_told hon k l r value j = told_fails k l j (task.Swap r value) (IsOutdated o es r) (old.swaps k j r value l) (λ a. ⊎_elim (dropped a) (missed a))
     where
-      dropped : ((trace o es).shadows k).task ≡ Some (task.Swap r value) → Drops (m.seats k) j → IsPast o es r
+      dropped : ((trace o es).shadows k).task ≡ Some (task.Swap r value) → Drops (m.seats k) j → IsOutdated o es r
       dropped a z =
           let y = at_work (m.seats k) z.1 (ap own_intent z.2) in
-          absurd (left k l j (task.Swap r value) (IsPast o es r) (work.Commit y.commit) a y.work).1
+          absurd (left k l j (task.Swap r value) (IsOutdated o es r) (work.Commit y.commit) a y.work).1
 
-      missed : ((trace o es).shadows k).task ≡ Some (task.Swap r value) → Misses (m.seats k) j (found_at m.world (access_of (m.seats k))) → IsPast o es r
+      missed : ((trace o es).shadows k).task ≡ Some (task.Swap r value) → Misses (m.seats k) j (found_at m.world (access_of (m.seats k))) → IsOutdated o es r
       missed a (x, after, q, v, y, f, u) =
-          let t : task.Swap r value ≡ task.Swap x after = (left k l j (task.Swap r value) (IsPast o es r) (swap_at x after swap.Exchange) a q).1 in
+          let t : task.Swap r value ≡ task.Swap x after = (left k l j (task.Swap r value) (IsOutdated o es r) (swap_at x after swap.Exchange) a q).1 in
           let same : x ≡ r = cc in
           let here : found_at m.world (access_of (m.seats k)) ≡ found.Word (m.world.word x.loc.0) = ap (λ z. found_at m.world (work_access (m.seats k).caller (m.seats k).calls z)) q in
           let word : m.world.word x.loc.0 ≡ Plain v y = cc in

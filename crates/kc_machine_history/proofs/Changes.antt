@@ -42,7 +42,7 @@ use Rattle.kc_machine_history.specs.kc_machine_commits.declared.commit.OwnStep.T
 use Rattle.kc_machine_history.specs.kc_machine.declared.hang.HangStep.{HangStep}
 use Rattle.kc_machine_history.specs.kc_machine_commits.Commits.{own_access, stage_access, fill_first, fill_second, wake_access, owner_of}
 use Rattle.kc_machine_history.specs.kc_machine_steps.Aids.{aid_access}
-use Rattle.kc_machine_history.specs.kc_machine_steps.Lines.{first_of, second_of, resolved_version, resolved_value, word_of}
+use Rattle.kc_machine_history.specs.kc_machine_steps.Lines.{first_of, second_of, resolved_version, resolved_value, reference_word}
 use Rattle.kc_machine_history.specs.kc_machine_steps.Looks.{look_access}
 use Rattle.kc_machine_history.specs.kc_machine_steps.Passes.{pass_access, install_access, check_access, release_at, release_access, status}
 use Rattle.kc_machine_history.specs.kc_machine_steps.declared.task.Event.{Event}
@@ -54,12 +54,12 @@ use Rattle.kc_machine_history.specs.kc_machine.Hangs.{hang_access_of, leave_acce
 use Rattle.kc_machine_history.specs.kc_machine.Works.{Work}
 use Rattle.kc_machine_history.specs.kc_machine.Works as work
 use Rattle.kc_machine_history.proofs.kc_machine.Functions.{put_else}
-use Rattle.kc_machine_history.specs.kc_machine.Machine.{World, State, put, put_some, touched, found_at, possible, happened, event_of, seat_of}
-use Rattle.kc_machine_history.specs.kc_machine.Seats.{access_of, answer_of, work_access}
+use Rattle.kc_machine_history.specs.kc_machine.Machine.{World, State, put_at_index, put_some, touched, found_at, possible, happened, event_of, seat_of}
+use Rattle.kc_machine_history.specs.kc_machine.Seats.{access_of, seat_answered, work_access}
 use Rattle.kc_machine_history.specs.kc_machine.Words.{word_is, status_is}
 use Rattle.kc_machine_history.specs.kc_machine.declared.seat.Seat.{Seat}
 use Rattle.kc_machine_history.proofs.kc_machine_invariants.Tests.{status_active, word_same, plain_same}
-use Rattle.kc_machine_history.specs.kc_machine_invariants.Stands.{Stand, Owns, Waits, Over, At, Aids, stand, resting, works, commits, owns, aids}
+use Rattle.kc_machine_history.specs.kc_machine_invariants.Stands.{Stand, Owns, Waits, Over, At, Aids, stand, resting, works, stand_commits, owns, stand_aids}
 use Rattle.kc_machine_history.specs.kc_machine_invariants.Owners.{fills}
 use Rattle.kc_machine_history.proofs.kc_machine_traces.Copies.{SameWords}
 
@@ -75,10 +75,10 @@ pub data Releasing (s : Stand) : Handle → ℕ → Phase → Line → Type 0 wh
 pub data Changes (w : World) (s : Stand) : World → Type 0 where
   other : {v : World} → v.word ≡ w.word → v.status ≡ w.status → v.owner ≡ w.owner → v.first ≡ w.first → v.second ≡ w.second → Changes w s v
   filled : {v : World} (h : Handle) (i : Intent) (step : OwnStep) → s.own ≡ Owns h i step → fills step ≡ true → v.word ≡ w.word → v.status ≡ w.status → ((d : ℕ) → d ≢ h.descriptor → SameWords w v d) → Changes w s v
-  started : (h : Handle) (i : Intent) → s.own ≡ Owns h i own.Start → Changes w s (record w { status = put w.status h.descriptor (status h.generation Active) })
-  installed : (h : Handle) (m : Mode) (xs : List Line) (j : ℕ) (x : Line) → s.pass ≡ Over h m xs (At (Install j)) → slice_get xs j ≡ Some x → w.word x.seen.loc.0 ≡ Plain x.seen.version x.seen.value → Changes w s (record w { word = put w.word x.seen.loc.0 (word_of h j) })
-  released : (h : Handle) (j : ℕ) (p : Phase) (x : Line) → Releasing s h j p x → w.word x.seen.loc.0 ≡ word_of h j → Changes w s (record w { word = put w.word x.seen.loc.0 (left_by x p) })
-  decided : (h : Handle) (m : Mode) (xs : List Line) (p : Phase) → s.pass ≡ Over h m xs (At (Decide p)) → w.status h.descriptor ≡ status h.generation Active → Changes w s (record w { status = put w.status h.descriptor (status h.generation p) })
+  started : (h : Handle) (i : Intent) → s.own ≡ Owns h i own.Start → Changes w s (record w { status = put_at_index w.status h.descriptor (status h.generation Active) })
+  installed : (h : Handle) (m : Mode) (xs : List Line) (j : ℕ) (x : Line) → s.pass ≡ Over h m xs (At (Install j)) → slice_get xs j ≡ Some x → w.word x.seen.loc.0 ≡ Plain x.seen.version x.seen.value → Changes w s (record w { word = put_at_index w.word x.seen.loc.0 (reference_word h j) })
+  released : (h : Handle) (j : ℕ) (p : Phase) (x : Line) → Releasing s h j p x → w.word x.seen.loc.0 ≡ reference_word h j → Changes w s (record w { word = put_at_index w.word x.seen.loc.0 (left_by x p) })
+  decided : (h : Handle) (m : Mode) (xs : List Line) (p : Phase) → s.pass ≡ Over h m xs (At (Decide p)) → w.status h.descriptor ≡ status h.generation Active → Changes w s (record w { status = put_at_index w.status h.descriptor (status h.generation p) })
 
 plain_is : (v : Word) (a b : ℕ) → word_is v (Plain a b) ≡ true → v ≡ Plain a b
 plain_is (Plain v y) a b e = plain_same v y a b e
@@ -96,14 +96,14 @@ module _ (w : World) where
   installs s h m xs j q None e = nothing s
   installs s h m xs j q (Some x) e = go (word_is (w.word x.seen.loc.0) (Plain x.seen.version x.seen.value)) refl
     where
-      go : (b : Bool) → word_is (w.word x.seen.loc.0) (Plain x.seen.version x.seen.value) ≡ b → Changes w s (Put x.seen.loc.0 (word_of h j) b)
+      go : (b : Bool) → word_is (w.word x.seen.loc.0) (Plain x.seen.version x.seen.value) ≡ b → Changes w s (Put x.seen.loc.0 (reference_word h j) b)
       go true z = installed h m xs j x q e (plain_is (w.word x.seen.loc.0) x.seen.version x.seen.value z)
       go false z = nothing s
 
   releases : (s : Stand) (h : Handle) (j : ℕ) (p : Phase) (x : Line) → Releasing s h j p x → Changes w s (touched w (release_access h j p x))
-  releases s h j p x r = go (word_is (w.word x.seen.loc.0) (word_of h j)) refl
+  releases s h j p x r = go (word_is (w.word x.seen.loc.0) (reference_word h j)) refl
     where
-      go : (b : Bool) → word_is (w.word x.seen.loc.0) (word_of h j) ≡ b → Changes w s (Put x.seen.loc.0 (left_by x p) b)
+      go : (b : Bool) → word_is (w.word x.seen.loc.0) (reference_word h j) ≡ b → Changes w s (Put x.seen.loc.0 (left_by x p) b)
       go true z = released h j p x r (word_same (w.word x.seen.loc.0) h j z)
       go false z = nothing s
 
@@ -129,16 +129,16 @@ module _ (w : World) where
       go None e = nothing s
       go (Some x) e = releases s h j p x (in_pass h m xs j p x q e)
 
-  aid_changes : (t : Stand) (r : Reference) (c : Aided) (a : AidStep) → Changes w (aids t r c a) (touched w (aid_access r c.lines.items a))
+  aid_changes : (t : Stand) (r : Reference) (c : Aided) (a : AidStep) → Changes w (stand_aids t r c a) (touched w (aid_access r c.lines.items a))
   aid_changes t r c aid.Hold = other refl refl refl refl refl
   aid_changes t r c aid.Status = other refl refl refl refl refl
   aid_changes t r c (aid.First p) = other refl refl refl refl refl
   aid_changes t r c (aid.Second p f) = other refl refl refl refl refl
-  aid_changes t r c (aid.Release p x) = releases (aids t r c (aid.Release p x)) r.handle r.line p x (in_aid r c p x refl)
+  aid_changes t r c (aid.Release p x) = releases (stand_aids t r c (aid.Release p x)) r.handle r.line p x (in_aid r c p x refl)
   aid_changes t r c aid.Owner = other refl refl refl refl refl
   aid_changes t r c aid.LoadFirst = other refl refl refl refl refl
   aid_changes t r c (aid.LoadSecond f) = other refl refl refl refl refl
-  aid_changes t r c (aid.Pass p) = pass_changes (aids t r c (aid.Pass p)) r.handle c.owner.mode c.lines.items p refl
+  aid_changes t r c (aid.Pass p) = pass_changes (stand_aids t r c (aid.Pass p)) r.handle c.owner.mode c.lines.items p refl
   aid_changes t r c (aid.Leave o) = other refl refl refl refl refl
   aid_changes t r c (aid.Drop stray o) = other refl refl refl refl refl
 
@@ -186,12 +186,12 @@ module _ (w : World) where
       where
         go : (o : Option Line) → Changes w (on c h (own.FillFirst j)) (touched w (fill_first h.descriptor j o))
         go None = nothing (on c h (own.FillFirst j))
-        go (Some x) = filled h c.intent (own.FillFirst j) refl refl refl refl (λ d ne. record { owner = refl; first = sym (put_else w.first h.descriptor (put (w.first h.descriptor) j (first_of x)) d ne); second = refl })
+        go (Some x) = filled h c.intent (own.FillFirst j) refl refl refl refl (λ d ne. record { owner = refl; first = sym (put_else w.first h.descriptor (put_at_index (w.first h.descriptor) j (first_of x)) d ne); second = refl })
     own_changes c h (own.FillSecond j) = go (slice_get c.intent.lines.items j)
       where
         go : (o : Option Line) → Changes w (on c h (own.FillSecond j)) (touched w (fill_second h.descriptor j o))
         go None = nothing (on c h (own.FillSecond j))
-        go (Some x) = filled h c.intent (own.FillSecond j) refl refl refl refl (λ d ne. record { owner = refl; first = refl; second = sym (put_else w.second h.descriptor (put (w.second h.descriptor) j (second_of x)) d ne) })
+        go (Some x) = filled h c.intent (own.FillSecond j) refl refl refl refl (λ d ne. record { owner = refl; first = refl; second = sym (put_else w.second h.descriptor (put_at_index (w.second h.descriptor) j (second_of x)) d ne) })
     own_changes c h own.Start = started h c.intent refl
     own_changes c h own.Abandon = other refl refl refl refl refl
     own_changes c h (own.Pass p) = pass_changes (on c h (own.Pass p)) h c.intent.mode c.intent.lines.items p refl
@@ -204,7 +204,7 @@ module _ (w : World) where
     own_changes c h (own.Signal owed) = other refl refl refl refl refl
     own_changes c h (own.Drop p) = other refl refl refl refl refl
 
-    stage_changes : (c : Commit) (x : Stage) → Changes w (commits (record (resting s) { halted = c.halted }) c.intent c.copy x) (touched w (stage_access s.caller s.calls c x))
+    stage_changes : (c : Commit) (x : Stage) → Changes w (stand_commits (record (resting s) { halted = c.halted }) c.intent c.copy x) (touched w (stage_access s.caller s.calls c x))
     stage_changes c (stage.Scan d worn) = other refl refl refl refl refl
     stage_changes c (stage.Take d g) = other refl refl refl refl refl
     stage_changes c (stage.Own h step) = own_changes c h step
@@ -234,11 +234,11 @@ pub calm_changes : (m : State) (e : Event) → takes (stand (m.seats (seat_of e)
 calm_changes m e = go (nat_lt (seat_of e) m.callers)
   where
     next : (k : ℕ) (b : Bool) → State
-    next k b = if b then record m { world = touched m.world (access_of (m.seats k)); seats = put m.seats k (answer_of (m.seats k) (found_at m.world (access_of (m.seats k)))) } else m
+    next k b = if b then record m { world = touched m.world (access_of (m.seats k)); seats = put_at_index m.seats k (seat_answered (m.seats k) (found_at m.world (access_of (m.seats k)))) } else m
 
     step : (k : ℕ) (b : Bool) → takes (stand (m.seats k)).swap (stand ((next k b).seats k)).swap ≡ false → Changes m.world (stand (m.seats k)) (next k b).world
     step k true z = step_changes m.world (m.seats k) (λ r after q was low.
-        let here = put_here m.seats k (answer_of (m.seats k) (found_at m.world (access_of (m.seats k)))) in
+        let here = put_here m.seats k (seat_answered (m.seats k) (found_at m.world (access_of (m.seats k)))) in
         let y : true ≡ false = sym (exchanging m k r after q was low) ∙ ap (λ (x : Seat). takes (stand (m.seats k)).swap (stand x).swap) (sym here) ∙ z in
         absurd (cc))
     step k false z = nothing m.world (stand (m.seats k))

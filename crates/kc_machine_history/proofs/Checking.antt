@@ -30,16 +30,16 @@ use Rattle.kc_machine_history.specs.kc_machine_steps.declared.pass.PassStep.TheV
 use Rattle.kc_machine_history.specs.kc_machine_steps.declared.pass.AfterCheck.TheVariants as checked
 use Rattle.kc_machine_history.specs.kc_machine_steps.declared.pass.PassNext.TheVariants as pass
 use Rattle.kc_machine_history.proofs.kc_machine.Functions.{put_cases}
-use Rattle.kc_machine_history.specs.kc_machine.Machine.{World, State, Opening, put, put_some, touched, found_at, possible, happened, event_of, seat_of, run}
+use Rattle.kc_machine_history.specs.kc_machine.Machine.{World, State, Opening, put_at_index, put_some, touched, found_at, possible, happened, event_of, seat_of, run}
 use Rattle.kc_machine_history.specs.kc_machine.Schedules.{IsSchedule}
-use Rattle.kc_machine_history.specs.kc_machine.Seats.{access_of, answer_of}
+use Rattle.kc_machine_history.specs.kc_machine.Seats.{access_of, seat_answered}
 use Rattle.kc_machine_history.specs.kc_machine.Words.{control, gripped, status_is}
 use Rattle.kc_machine_history.specs.kc_machine_traces.Traces.{is_placed_at}
 use Rattle.kc_machine_history.proofs.kc_machine_invariants.PoolLaws.{holds_kept}
 use Rattle.kc_machine_history.proofs.kc_machine_invariants.Tests.{status_active, status_other}
 use Rattle.kc_machine_history.specs.kc_machine_invariants.Holds.{held, check_hold}
 use Rattle.kc_machine_history.specs.kc_machine_invariants.Stands.{Over, At, stand}
-use Rattle.kc_machine_history.specs.Places.{pass_of}
+use Rattle.kc_machine_history.specs.Places.{seat_pass}
 use Rattle.kc_machine_traces.proofs.Always.{phase_known, line_known}
 use Rattle.kc_machine_traces.proofs.Gone.{next_skips}
 use Rattle.kc_machine_traces.specs.Phases.{IsDecided, AidKnows}
@@ -50,7 +50,7 @@ use Rattle.kc_machine_history.proofs.Changes.{Changes, other, filled, started, i
 use Rattle.kc_machine_history.proofs.Comings.{comes_to, install_comes_to}
 use Rattle.kc_machine_history.specs.Settled.{Settled, checked_by, MetStands, StepMet}
 use Rattle.kc_machine_history.proofs.kc_machine_invariants.Searches.{IsPicked, next_fits}
-use Rattle.kc_machine_history.specs.kc_machine_steps.Lines.{after_line, is_installed, next_line, picks, word_of, resolved_version}
+use Rattle.kc_machine_history.specs.kc_machine_steps.Lines.{after_line, is_installed, next_line, picks, reference_word, resolved_version}
 use Rattle.kc_machine_history.specs.kc_machine_steps.Looks.{reference_of}
 use Rattle.kc_machine_history.specs.kc_machine_steps.Passes.{status, fits, from_check, check_or_decide, from_install, install_or_check, release_or_finish, pass_access, check_access, pass_next, check_found, crossed_or_first, agrees_or_fails, check_first_found, decided_as}
 use Rattle.kc_machine_history.specs.kc_machine_steps.declared.task.Event.{Event}
@@ -109,7 +109,7 @@ control_up w (access.Control i g) d = go (gripped g (w.control i)) refl
 pub controls_rise : (m : State) (e : Event) (d : ℕ) → (m.world.control d).generation ≤ ((event_of m e).world.control d).generation
 controls_rise m e d = go (nat_lt (seat_of e) m.callers)
   where
-    step : (k : ℕ) (b : Bool) → (m.world.control d).generation ≤ ((if b then record m { world = touched m.world (access_of (m.seats k)); seats = put m.seats k (answer_of (m.seats k) (found_at m.world (access_of (m.seats k)))) } else m).world.control d).generation
+    step : (k : ℕ) (b : Bool) → (m.world.control d).generation ≤ ((if b then record m { world = touched m.world (access_of (m.seats k)); seats = put_at_index m.seats k (seat_answered (m.seats k) (found_at m.world (access_of (m.seats k)))) } else m).world.control d).generation
     step k true = control_up m.world (access_of (m.seats k)) d
     step k false = omega arith
 
@@ -186,7 +186,7 @@ module _ (o : Opening) (es : List Event) (e : Event) (w : IsSchedule o es) (w' :
       moved b v (other q r t y z) = ap (λ f. f l) q ∙ word
       moved b v (filled h x step q f r t y) = ap (λ f. f l) r ∙ word
       moved b v (started h x q) = word
-      moved b v (installed h mode xs j x q r t) = put_cases (λ y. y ≡ Ref g d i) m.world.word x.seen.loc.0 (word_of h j) l
+      moved b v (installed h mode xs j x q r t) = put_cases (λ y. y ≡ Ref g d i) m.world.word x.seen.loc.0 (reference_word h j) l
           (λ z. let y : Plain x.seen.version x.seen.value ≡ Ref g d i = sym t ∙ ap m.world.word (sym z) ∙ word in absurd (cc))
           (λ ne. word)
       moved b v (released h j p x q r) = put_cases (λ y. y ≡ Ref g d i) m.world.word x.seen.loc.0 _ l
@@ -311,7 +311,7 @@ module _ (o : Opening) (es : List Event) (e : Event) (w : IsSchedule o es) (w' :
         word x g (Plain v y) r = go (fits v y x)
           where
             go : (b : Bool) → pass.Goes (if b then from_check mode xs (after_line j) else Decide (Failed j)) ≡ pass.Goes q → is_placed_at q ≡ true → Good q
-            go true = by (from_check mode xs (after_line j)) (λ z. past j x g old (settled_by o es w x.seen.loc.0 (λ f i s act. let u : Plain v y ≡ word_of f i = sym r ∙ s in absurd (cc)) p)) q
+            go true = by (from_check mode xs (after_line j)) (λ z. past j x g old (settled_by o es w x.seen.loc.0 (λ f i s act. let u : Plain v y ≡ reference_word f i = sym r ∙ s in absurd (cc)) p)) q
             go false = by (Decide (Failed j)) (λ z. absurd (cc)) q
         word x g (Ref a d i) r = by (CheckHold j (reference_of a d i)) (λ z. (
           kept (CheckHold j (reference_of a d i)) refl,
@@ -324,7 +324,7 @@ module _ (o : Opening) (es : List Event) (e : Event) (w : IsSchedule o es) (w' :
         at None g = by (Check j) (λ z. (kept (Check j) refl, tt)) q
         at (Some x) g = word x g (m.world.word x.seen.loc.0) refl
 
-    module _ (t : PassStep) (over : pass_of o es k ≡ Over h mode xs (At t)) where
+    module _ (t : PassStep) (over : seat_pass o es k ≡ Over h mode xs (At t)) where
       callers : k < m.callers
       callers = let c = (run_shape o es).2 in omega arith
 
@@ -334,7 +334,7 @@ module _ (o : Opening) (es : List Event) (e : Event) (w : IsSchedule o es) (w' :
       holding : (r : Reference) → check_hold (Over h mode xs (At t)) ≡ held r → (m.world.control r.handle.descriptor).generation ≡ r.handle.generation
       holding r q = holds_kept o es k r.handle.descriptor r.handle.generation callers (inr (inl (ap check_hold over ∙ q)))
 
-    by_hold : (j : ℕ) (r : Reference) → pass_of o es k ≡ Over h mode xs (At (CheckHold j r)) → OldChecks (CheckHold j r) → StepMet o es p xs (CheckHold j r)
+    by_hold : (j : ℕ) (r : Reference) → seat_pass o es k ≡ Over h mode xs (At (CheckHold j r)) → OldChecks (CheckHold j r) → StepMet o es p xs (CheckHold j r)
         → (q : PassStep) → pass_next h mode xs (CheckHold j r) (found_at m.world (pass_access h xs (CheckHold j r))) ≡ pass.Goes q → is_placed_at q ≡ true → Good q
     by_hold j r over old met q = go ((m.world.control r.handle.descriptor).generation == r.handle.generation)
       where
@@ -342,7 +342,7 @@ module _ (o : Opening) (es : List Event) (e : Event) (w : IsSchedule o es) (w' :
         go true = by (CheckStatus j r) (λ z. ((λ i x g f b. still x.seen.loc.0 (old i x g f b)), λ x g. met_on p x.seen.loc.0 r low (published (CheckHold j r) over r refl) (met x g))) q
         go false = by (CheckDrop j r true checked.Again) (λ z. ((λ i x g f b. still x.seen.loc.0 (old i x g f b)), tt)) q
 
-    by_status : (j : ℕ) (r : Reference) → pass_of o es k ≡ Over h mode xs (At (CheckStatus j r)) → OldChecks (CheckStatus j r) → StepMet o es p xs (CheckStatus j r)
+    by_status : (j : ℕ) (r : Reference) → seat_pass o es k ≡ Over h mode xs (At (CheckStatus j r)) → OldChecks (CheckStatus j r) → StepMet o es p xs (CheckStatus j r)
         → (q : PassStep) → pass_next h mode xs (CheckStatus j r) (found_at m.world (pass_access h xs (CheckStatus j r))) ≡ pass.Goes q → is_placed_at q ≡ true → Good q
     by_status j r over old met q = go (m.world.status r.handle.descriptor).phase refl
       where
@@ -411,7 +411,7 @@ module _ (o : Opening) (es : List Event) (e : Event) (w : IsSchedule o es) (w' :
     by_release f (Some j) q = by (Release j f) (λ z. absurd (cc)) q
 
     -- from how it stood, and what it knew there if it was placed
-    pub from_step : (t : PassStep) → pass_of o es k ≡ Over h mode xs (At t) → ((j : ℕ) (r : Reference) (stray : Bool) (c : AfterCheck) → t ≡ CheckDrop j r stray c → c ≢ checked.Decide Succeeded) → (is_placed_at t ≡ true → OldChecks t × StepMet o es p xs t)
+    pub from_step : (t : PassStep) → seat_pass o es k ≡ Over h mode xs (At t) → ((j : ℕ) (r : Reference) (stray : Bool) (c : AfterCheck) → t ≡ CheckDrop j r stray c → c ≢ checked.Decide Succeeded) → (is_placed_at t ≡ true → OldChecks t × StepMet o es p xs t)
         → (q : PassStep) → pass_next h mode xs t (found_at m.world (pass_access h xs t)) ≡ pass.Goes q → is_placed_at q ≡ true → Good q
     from_step (Install j) over ne old q = by_install j q
     from_step (Check j) over ne old q = by_check j (old refl).0 q
@@ -423,10 +423,10 @@ module _ (o : Opening) (es : List Event) (e : Event) (w : IsSchedule o es) (w' :
     from_step (Release j f) over ne old q = by_release f (next_line Installed mode xs (after_line j)) q
 
     -- what it knew it knows where it stays
-    pub kept_step : (t : PassStep) → pass_of o es k ≡ Over h mode xs (At t) → OldChecks t → StepMet o es p xs t → Good t
+    pub kept_step : (t : PassStep) → seat_pass o es k ≡ Over h mode xs (At t) → OldChecks t → StepMet o es p xs t → Good t
     kept_step t over old met = ((λ i x g f b. still x.seen.loc.0 (old i x g f b)), go t over met)
       where
-        go : (t : PassStep) → pass_of o es k ≡ Over h mode xs (At t) → StepMet o es p xs t → StepMet o es' p xs t
+        go : (t : PassStep) → seat_pass o es k ≡ Over h mode xs (At t) → StepMet o es p xs t → StepMet o es' p xs t
         go (Install j) over met = tt
         go (Check j) over met = tt
         go (CheckHold j r) over met = λ x g. met_on p x.seen.loc.0 r low (published (CheckHold j r) over r refl) (met x g)

@@ -3,8 +3,8 @@ use Rattle.std.proofs.Common.{◌≡◌, ℕ, ◌&&◌, Bool, true, false, List,
 use Rattle.std.specs.Prelude.{nat_lt, slice_get}
 use Rattle.std.specs.Option.{is_some}
 use Rattle.kc_machine_traces.proofs.kc_machine.Functions.{put_here, both}
-use Rattle.kc_machine_traces.specs.kc_machine.Machine.{World, State, put, put_some, touched, possible, found_at, happened, event_of, seat_of}
-use Rattle.kc_machine_traces.specs.kc_machine.Seats.{access_of, answer_of}
+use Rattle.kc_machine_traces.specs.kc_machine.Machine.{World, State, put_at_index, put_some, touched, possible, found_at, happened, event_of, seat_of}
+use Rattle.kc_machine_traces.specs.kc_machine.Seats.{access_of, seat_answered}
 use Rattle.kc_machine_traces.specs.kc_machine.Words.{phase_is, status_is}
 use Rattle.kc_machine_traces.specs.Histories.{History, Placed, inserted}
 use Rattle.kc_machine_traces.specs.Traces.{Trace, is_success, is_placed, decides, entry_for, history_after, place_or, now, traced}
@@ -95,13 +95,13 @@ pub record Decided (m n : State) (k : ℕ) (h : Handle) (t : Turn) : Type 0 wher
 
 module _ (m : State) (h : Handle) (mode : Mode) (xs : List Line) where
   abbrev Stepped : ℕ → State
-  Stepped k = record m { world = touched m.world (access_of (m.seats k)); seats = put m.seats k (answer_of (m.seats k) (found_at m.world (access_of (m.seats k)))) }
+  Stepped k = record m { world = touched m.world (access_of (m.seats k)); seats = put_at_index m.seats k (seat_answered (m.seats k) (found_at m.world (access_of (m.seats k)))) }
 
   by_access : (k : ℕ) (t : Turn) → (stand (m.seats k)).pass ≡ Over h mode xs t → Touches (Over h mode xs t) (access_of (m.seats k)) → decides m.world (Stepped k).world h ≡ true → Decided m (Stepped k) k h t
   by_access k (At p) q a d =
       let s = m.seats k in
       let b = by_step m.world h xs p (sym (ap (λ a. decides m.world (touched m.world a) h) a) ∙ d) in
-      let c : Quits (Over h mode xs (At (Decide Succeeded))) (stand (answer_of s (found_at m.world (access_of s)))).pass = subst (λ p. Quits p (stand (answer_of s (found_at m.world (access_of s)))).pass) (q ∙ ap (λ p. Over h mode xs (At p)) b.step) (step_quits s m.world) in
+      let c : Quits (Over h mode xs (At (Decide Succeeded))) (stand (seat_answered s (found_at m.world (access_of s)))).pass = subst (λ p. Quits p (stand (seat_answered s (found_at m.world (access_of s)))).pass) (q ∙ ap (λ p. Over h mode xs (At p)) b.step) (step_quits s m.world) in
       record {
         turn = ap At b.step;
         was = b.was;

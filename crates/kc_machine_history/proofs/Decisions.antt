@@ -10,7 +10,7 @@ use Rattle.kc_machine_traces.specs.kc_machine_invariants.Holds.{Proper, own_hold
 use Rattle.kc_machine_traces.specs.kc_machine_invariants.Stands.{Over, Turn, At, Stand, stand}
 use Rattle.kc_machine_history.proofs.Deciding.{Entrance, undecided, history_cases}
 use Rattle.kc_machine_history.proofs.Places.{placing}
-use Rattle.kc_machine_history.specs.Decisions.{own_of, Decision, MovesByDecision}
+use Rattle.kc_machine_history.specs.Decisions.{seat_own, Decision, MovesByDecision}
 use Rattle.kc_machine_traces.proofs.kc_machine_invariants.LifeLaws.{statuses_follow}
 use Rattle.kc_machine_traces.specs.kc_machine_invariants.Owners.{Follows, is_filling}
 use Rattle.kc_machine_traces.specs.kc_machine_steps.Passes.{status}
@@ -68,9 +68,9 @@ module _ (o : Opening) (es : List Event) (e : Event) where
         was = was;
         now_is = ap (λ (m : State). m.world.status n.handle.descriptor) (run-append o es (e ∷ []) ∙ ap (λ m. event_of m e) (sym m)) ∙ n.now_is;
         caller = subst (λ k. k < o.callers) (sym caller) a.within;
-        owns = ap (λ k. own_hold (own_of o es k)) caller ∙ a.owns ∙ same;
-        started = ap (λ k. is_filling (own_of o es k)) caller ∙ a.started;
-        intent = ap (λ k. own_intent (own_of o es k)) caller ∙ a.has ∙ ap Some intent;
+        owns = ap (λ k. own_hold (seat_own o es k)) caller ∙ a.owns ∙ same;
+        started = ap (λ k. is_filling (seat_own o es k)) caller ∙ a.started;
+        intent = ap (λ k. own_intent (seat_own o es k)) caller ∙ a.has ∙ ap Some intent;
         number = ap (λ (w : Entry). w.number) z ∙ a.call ∙ ap (λ k. ((run o es).seats k).calls) (sym caller);
         footprint = ap (λ (w : Entry). w.footprint) z;
       }

@@ -14,7 +14,7 @@ use Rattle.kc_machine_history.proofs.Calls.{own_goes}
 use Rattle.kc_machine_history.proofs.Decisions.{history_moves}
 use Rattle.kc_machine_history.proofs.Filters.{found}
 use Rattle.kc_machine_history.proofs.Insertions.{inserted_contains}
-use Rattle.kc_machine_history.specs.Decisions.{own_of, Decision}
+use Rattle.kc_machine_history.specs.Decisions.{seat_own, Decision}
 use Rattle.kc_machine_traces.proofs.kc_machine_invariants.LifeLaws.{owners_differ}
 use Rattle.kc_machine_traces.specs.kc_machine_invariants.Owners.{OwnsLife, is_filling}
 use Rattle.kc_machine_traces.proofs.Runs.{called}
@@ -111,10 +111,10 @@ module _ (o : Opening) (es : List Event) (e : Event) (w : IsSchedule o es) (old 
         succeeded x d y = at h.not_yet
           where
             begun : is_filling (stand (m.seats k)).own ≡ false
-            begun = ap (λ j. is_filling (own_of o es j)) (sym y) ∙ d.started
+            begun = ap (λ j. is_filling (seat_own o es j)) (sym y) ∙ d.started
 
             same : d.handle.descriptor ≡ h.descriptor
-            same = same_life d.handle.descriptor d.handle.generation h.descriptor h.generation (sym d.owns ∙ ap (λ j. own_hold (own_of o es j)) y ∙ owns)
+            same = same_life d.handle.descriptor d.handle.generation h.descriptor h.generation (sym d.owns ∙ ap (λ j. own_hold (seat_own o es j)) y ∙ owns)
 
             at : (is_filling (stand (n.seats k)).own ≡ true) ⊎ (is_success (n.world.status h.descriptor).phase ≡ false) → ⊥
             at (inl u) = let z = f u in let a = begun in cc
@@ -142,7 +142,7 @@ module _ (o : Opening) (es : List Event) (e : Event) (w : IsSchedule o es) (old 
 
         more : (x : Placed) → Decision o es e x → Below (inserted x (trace o es).history)
         more x d z i = inserted_contains x (trace o es).history z (λ y. y.entry.caller ≡ k → y.entry.number < (n.seats k).calls)
-            (λ y. let a : NoHold ≡ Proper d.handle.descriptor d.handle.generation = sym none ∙ ap (λ j. own_hold (own_of o es j)) (sym y) ∙ d.owns in absurd (cc))
+            (λ y. let a : NoHold ≡ Proper d.handle.descriptor d.handle.generation = sym none ∙ ap (λ j. own_hold (seat_own o es j)) (sym y) ∙ d.owns in absurd (cc))
             kept i
 
     below : Below (trace o (es ++ e ∷ [])).history

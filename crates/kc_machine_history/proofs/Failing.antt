@@ -23,18 +23,18 @@ use Rattle.kc_machine_history.specs.kc_machine_steps.declared.pass.PassNext.TheV
 use Rattle.kc_machine_history.specs.kc_machine.Machine.{State, Opening, found_at, run}
 use Rattle.kc_machine_history.specs.kc_machine.Schedules.{IsSchedule}
 use Rattle.kc_machine_history.specs.kc_machine_traces.Claims.{stands_for}
-use Rattle.kc_machine_history.specs.kc_machine_traces.Histories.{cell_of}
+use Rattle.kc_machine_history.specs.kc_machine_traces.Histories.{seen_as_cell}
 use Rattle.kc_machine_history.specs.kc_machine_traces.Traces.{IsHonest, is_placed}
 use Rattle.kc_machine_history.specs.kc_machine_invariants.Stands.{Over, At}
 use Rattle.kc_machine_history.proofs.Filters.{found as found_at_index}
 use Rattle.kc_machine_history.proofs.Places.{has_place}
 use Rattle.kc_machine_history.specs.Later.{DecidesSoon}
-use Rattle.kc_machine_history.specs.Places.{pass_of, place_of}
+use Rattle.kc_machine_history.specs.Places.{seat_pass, seat_place}
 use Rattle.kc_machine_history.proofs.Bounds.{line_low, versions_on}
 use Rattle.kc_machine_history.proofs.Came.{way_to}
 use Rattle.kc_machine_history.proofs.Known.{OwnerAsked, owner_asked, line_within}
 use Rattle.kc_machine_history.proofs.Stood.{stood}
-use Rattle.kc_machine_history.specs.Causes.{IsPast, fails_at, PassesFailByPastLines}
+use Rattle.kc_machine_history.specs.Causes.{IsOutdated, fails_at, PassesFailByPastLines}
 use Rattle.kc_machine_history.specs.Honest.{ends_at, ResolvesBetween}
 use Rattle.kc_machine_history.specs.kc_machine_traces.Passed.{IsActive}
 use Rattle.kc_machine_history.proofs.Before.{level, active_back}
@@ -85,7 +85,7 @@ module _ (o : Opening) (es : List Event) (w : IsSchedule o es) (hon : IsHonest o
 
   module _ (k : ℕ) (h : Handle) (mode : Mode) (xs : List Line) (lk : k < o.callers) (act : IsActive m.world h) where
     abbrev Fails : PassStep → Type 0
-    Fails q = (j : ℕ) → fails_at q ≡ Some j → (x : Line) × (slice_get xs j ≡ Some x) × IsPast o es x.seen
+    Fails q = (j : ℕ) → fails_at q ≡ Some j → (x : Line) × (slice_get xs j ≡ Some x) × IsOutdated o es x.seen
 
     unfailing : (q : PassStep) → fails_at q ≡ None → Fails q
     unfailing q n j e = let z : None ≡ Some j = sym n ∙ e in absurd (cc)
@@ -96,15 +96,15 @@ module _ (o : Opening) (es : List Event) (w : IsSchedule o es) (hon : IsHonest o
     by : (a : PassStep) → Fails a → (q : PassStep) → pass.Goes a ≡ pass.Goes q → Fails q
     by a f q e = subst Fails (goes_as e) f
 
-    failed_here : (i : ℕ) (x : Line) → slice_get xs i ≡ Some x → IsPast o es x.seen → (j : ℕ) → ◌≡◌ {A = Option ℕ} (Some i) (Some j) → (x : Line) × (slice_get xs j ≡ Some x) × IsPast o es x.seen
+    failed_here : (i : ℕ) (x : Line) → slice_get xs i ≡ Some x → IsOutdated o es x.seen → (j : ℕ) → ◌≡◌ {A = Option ℕ} (Some i) (Some j) → (x : Line) × (slice_get xs j ≡ Some x) × IsOutdated o es x.seen
     failed_here i x g p j e = let z : i ≡ j = cc in (x, subst (λ a. slice_get xs a ≡ Some x) z g, p)
 
-    module _ (t : PassStep) (over : pass_of o es k ≡ Over h mode xs (At t)) where
+    module _ (t : PassStep) (over : seat_pass o es k ≡ Over h mode xs (At t)) where
       asks : OwnerAsked o es h mode xs
       asks = owner_asked o es w k h mode xs (At t) lk over act
 
       -- a line that its location's word doesn't fit is past
-      unfit_past : (i : ℕ) (x : Line) (v y : ℕ) → slice_get xs i ≡ Some x → m.world.word x.seen.loc.0 ≡ Plain v y → fits v y x ≡ false → IsPast o es x.seen
+      unfit_past : (i : ℕ) (x : Line) (v y : ℕ) → slice_get xs i ≡ Some x → m.world.word x.seen.loc.0 ≡ Plain v y → fits v y x ≡ false → IsOutdated o es x.seen
       unfit_past i x v y g r f = go (pass_stands_or_past o es w hon k h mode xs x lk (At t, over) act (found_at_index xs i x g))
         where
           ends : ◌≡◌ {A = Cell} (record { version = v; value = y }) (ends_at o es x.seen.loc.0)
@@ -113,11 +113,11 @@ module _ (o : Opening) (es : List Event) (w : IsSchedule o es) (hon : IsHonest o
           fit : v ≡ x.seen.version → y ≡ x.seen.value → fits v y x ≡ true
           fit a b = ap (λ z. z && (y == x.seen.value)) (eq-eqb v x.seen.version a) ∙ eq-eqb y x.seen.value b
 
-          go : (ends_at o es x.seen.loc.0 ≡ cell_of x.seen) ⊎ IsPast o es x.seen → IsPast o es x.seen
+          go : (ends_at o es x.seen.loc.0 ≡ seen_as_cell x.seen) ⊎ IsOutdated o es x.seen → IsOutdated o es x.seen
           go (inl s) = let z : true ≡ false = sym (fit (ap (λ (c : Cell). c.version) (ends ∙ s)) (ap (λ (c : Cell). c.value) (ends ∙ s))) ∙ f in absurd (cc)
           go (inr l) = l
 
-    by_install : (i : ℕ) → pass_of o es k ≡ Over h mode xs (At (Install i)) → (q : PassStep) → pass_next h mode xs (Install i) (found_at m.world (pass_access h xs (Install i))) ≡ pass.Goes q → Fails q
+    by_install : (i : ℕ) → seat_pass o es k ≡ Over h mode xs (At (Install i)) → (q : PassStep) → pass_next h mode xs (Install i) (found_at m.world (pass_access h xs (Install i))) ≡ pass.Goes q → Fails q
     by_install i over q = at (slice_get xs i) refl
       where
         word : (x : Line) → slice_get xs i ≡ Some x → (v : Word) → m.world.word x.seen.loc.0 ≡ v → install_found h mode xs i (found.Word v) (Some x) ≡ pass.Goes q → Fails q
@@ -136,7 +136,7 @@ module _ (o : Opening) (es : List Event) (w : IsSchedule o es) (hon : IsHonest o
         at None g = by (Install i) (unfailing (Install i) refl) q
         at (Some x) g = word x g (m.world.word x.seen.loc.0) refl
 
-    by_check : (i : ℕ) → pass_of o es k ≡ Over h mode xs (At (Check i)) → (q : PassStep) → pass_next h mode xs (Check i) (found_at m.world (pass_access h xs (Check i))) ≡ pass.Goes q → Fails q
+    by_check : (i : ℕ) → seat_pass o es k ≡ Over h mode xs (At (Check i)) → (q : PassStep) → pass_next h mode xs (Check i) (found_at m.world (pass_access h xs (Check i))) ≡ pass.Goes q → Fails q
     by_check i over q = at (slice_get xs i) refl
       where
         word : (x : Line) → slice_get xs i ≡ Some x → (v : Word) → m.world.word x.seen.loc.0 ≡ v → pass.Goes (check_found mode xs i (found.Word v) (Some x)) ≡ pass.Goes q → Fails q
@@ -168,14 +168,14 @@ module _ (o : Opening) (es : List Event) (w : IsSchedule o es) (hon : IsHonest o
         go (Crossed n) = by (CheckFirst i r (Crossed n)) (unfailing (CheckFirst i r (Crossed n)) refl) q
         go Halted = by (CheckFirst i r Halted) (unfailing (CheckFirst i r Halted) refl) q
 
-    by_first : (i : ℕ) (r : Reference) (f : Phase) → pass_of o es k ≡ Over h mode xs (At (CheckFirst i r f)) → (q : PassStep) → pass_next h mode xs (CheckFirst i r f) (found_at m.world (pass_access h xs (CheckFirst i r f))) ≡ pass.Goes q → Fails q
+    by_first : (i : ℕ) (r : Reference) (f : Phase) → seat_pass o es k ≡ Over h mode xs (At (CheckFirst i r f)) → (q : PassStep) → pass_next h mode xs (CheckFirst i r f) (found_at m.world (pass_access h xs (CheckFirst i r f))) ≡ pass.Goes q → Fails q
     by_first i r f over q = at (slice_get xs i) refl
       where
         v : ℕ
         v = resolved_version (m.world.first r.handle.descriptor r.line) f
 
         -- it has a place, and what it met resolves to no lower version than what stands there
-        past_at : (n : Option ℕ) → place_of o es k ≡ n → is_some n ≡ true → (x : Line) → slice_get xs i ≡ Some x → (v == x.seen.version) ≡ false → IsPast o es x.seen
+        past_at : (n : Option ℕ) → seat_place o es k ≡ n → is_some n ≡ true → (x : Line) → slice_get xs i ≡ Some x → (v == x.seen.version) ≡ false → IsOutdated o es x.seen
         past_at None z b x g a = absurd (cc)
         past_at (Some p) z b x g a =
             let d : DecidesSoon o es k p mode xs = record { within = lk; handle = h; turn = At (CheckFirst i r f); pass = over; place = z; active = act } in
@@ -186,8 +186,8 @@ module _ (o : Opening) (es : List Event) (w : IsSchedule o es) (hon : IsHonest o
             let lower = met.2.0 in
             omega (arith, ne)
 
-        first_past : (x : Line) → slice_get xs i ≡ Some x → (v == x.seen.version) ≡ false → IsPast o es x.seen
-        first_past = past_at (place_of o es k) refl (has_place o es k ∙ ap is_placed over)
+        first_past : (x : Line) → slice_get xs i ≡ Some x → (v == x.seen.version) ≡ false → IsOutdated o es x.seen
+        first_past = past_at (seat_place o es k) refl (has_place o es k ∙ ap is_placed over)
 
         drop : (x : Line) → slice_get xs i ≡ Some x → (b : Bool) → (v == x.seen.version) ≡ b → pass.Goes (CheckDrop i r false (agrees_or_fails i b)) ≡ pass.Goes q → Fails q
         drop x g true a = by (CheckDrop i r false checked.Agrees) (unfailing (CheckDrop i r false checked.Agrees) refl) q
@@ -197,7 +197,7 @@ module _ (o : Opening) (es : List Event) (w : IsSchedule o es) (hon : IsHonest o
         at None g = by (CheckFirst i r f) (unfailing (CheckFirst i r f) refl) q
         at (Some x) g = drop x g (v == x.seen.version) refl
 
-    by_drop : (i : ℕ) (r : Reference) (stray : Bool) (c : AfterCheck) → pass_of o es k ≡ Over h mode xs (At (CheckDrop i r stray c)) → (q : PassStep) → pass_next h mode xs (CheckDrop i r stray c) (found_at m.world (pass_access h xs (CheckDrop i r stray c))) ≡ pass.Goes q → Fails q
+    by_drop : (i : ℕ) (r : Reference) (stray : Bool) (c : AfterCheck) → seat_pass o es k ≡ Over h mode xs (At (CheckDrop i r stray c)) → (q : PassStep) → pass_next h mode xs (CheckDrop i r stray c) (found_at m.world (pass_access h xs (CheckDrop i r stray c))) ≡ pass.Goes q → Fails q
     by_drop i r stray checked.Again over q = by (Check i) (unfailing (Check i) refl) q
     by_drop i r stray checked.Agrees over q = by (from_check mode xs (after_line i)) (unfailing (from_check mode xs (after_line i)) (check_unfailing mode xs (after_line i))) q
     by_drop i r stray (checked.Decide f) over q = by (Decide f) (λ j e. old k j h mode xs (CheckDrop i r stray (checked.Decide f)) lk over e act) q
@@ -207,7 +207,7 @@ module _ (o : Opening) (es : List Event) (w : IsSchedule o es) (hon : IsHonest o
     by_release f None q = λ y. absurd (cc)
     by_release f (Some i) q = by (Release i f) (unfailing (Release i f) refl) q
 
-    from_step : (t : PassStep) → pass_of o es k ≡ Over h mode xs (At t) → (q : PassStep) → pass_next h mode xs t (found_at m.world (pass_access h xs t)) ≡ pass.Goes q → Fails q
+    from_step : (t : PassStep) → seat_pass o es k ≡ Over h mode xs (At t) → (q : PassStep) → pass_next h mode xs t (found_at m.world (pass_access h xs t)) ≡ pass.Goes q → Fails q
     from_step (Install i) over q = by_install i over q
     from_step (Check i) over q = by_check i over q
     from_step (CheckHold i r) over q = by_hold i r q
@@ -219,19 +219,19 @@ module _ (o : Opening) (es : List Event) (w : IsSchedule o es) (hon : IsHonest o
 
 -- ---- one event
 
-pub later_past : (o : Opening) (es : List Event) (e : Event) → IsSchedule o es → (r : Seen) → IsPast o es r → IsPast o (es ++ e ∷ []) r
+pub later_past : (o : Opening) (es : List Event) (e : Event) → IsSchedule o es → (r : Seen) → IsOutdated o es r → IsOutdated o (es ++ e ∷ []) r
 later_past o es e w r p = let v = versions_on o es e w r.loc.0 in omega arith
 
 module _ (o : Opening) (es : List Event) (e : Event) (w : IsSchedule o es) (hon : IsHonest o es) (old : PassesFailByPastLines o es) where
-  module _ (k j : ℕ) (h : Handle) (mode : Mode) (xs : List Line) (q : PassStep) (lk : k < o.callers) (over : pass_of o (es ++ e ∷ []) k ≡ Over h mode xs (At q)) (fails : fails_at q ≡ Some j) (act : IsActive (run o (es ++ e ∷ [])).world h) where
+  module _ (k j : ℕ) (h : Handle) (mode : Mode) (xs : List Line) (q : PassStep) (lk : k < o.callers) (over : seat_pass o (es ++ e ∷ []) k ≡ Over h mode xs (At q)) (fails : fails_at q ≡ Some j) (act : IsActive (run o (es ++ e ∷ [])).world h) where
     -- it was Active, where the pass stood over it
-    was : (t : PassStep) → pass_of o es k ≡ Over h mode xs (At t) → IsActive (run o es).world h
+    was : (t : PassStep) → seat_pass o es k ≡ Over h mode xs (At t) → IsActive (run o es).world h
     was t y = active_back o es e h.descriptor h.generation (level o es k h mode xs (At t) lk y) (ap (λ (x : State). x.world.status h.descriptor) (sym (run-append o es (e ∷ []))) ∙ act)
 
     abbrev FailedBy : Type 0
-    FailedBy = (x : Line) × (slice_get xs j ≡ Some x) × IsPast o es x.seen
+    FailedBy = (x : Line) × (slice_get xs j ≡ Some x) × IsOutdated o es x.seen
 
-    unmoved : pass_of o es k ≡ Over h mode xs (At q) → FailedBy
+    unmoved : seat_pass o es k ≡ Over h mode xs (At q) → FailedBy
     unmoved y = old k j h mode xs q lk y fails (was q y)
 
     never : {A : Type 0} → fails_at q ≡ None → A
@@ -241,7 +241,7 @@ module _ (o : Opening) (es : List Event) (e : Event) (w : IsSchedule o es) (hon 
     stopped i r stray c (inl e) = ap (λ x. fails_at (CheckDrop i r stray x)) e
     stopped i r stray c (inr e) = ap (λ x. fails_at (CheckDrop i r stray x)) e
 
-    by_way : Way (run o es).world h mode xs (pass_of o es k) q → FailedBy
+    by_way : Way (run o es).world h mode xs (seat_pass o es k) q → FailedBy
     by_way (stays y) = unmoved y
     by_way (steps t y z) = from_step o es w hon old k h mode xs lk (was t y) t y q z j fails
     by_way (enters i y) = never (ap fails_at y ∙ install_unfailing mode xs i)

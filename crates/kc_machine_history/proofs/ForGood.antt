@@ -11,7 +11,7 @@ use Rattle.kc_machine_history.proofs.Decisions.{history_moves}
 use Rattle.kc_machine_history.proofs.Growing.{line_that_puts, puts_installed}
 use Rattle.kc_machine_history.proofs.Insertions.{at_lower, at_else}
 use Rattle.kc_machine_history.specs.Decisions.{Decision}
-use Rattle.kc_machine_history.specs.Insertions.{put_by}
+use Rattle.kc_machine_history.specs.Insertions.{put_by_entry}
 use Rattle.kc_machine_history.proofs.Before.{settled_on}
 use Rattle.kc_machine_history.specs.Settled.{Settled}
 use Rattle.kc_machine_history.specs.kc_machine_steps.declared.pass.PassStep.TheVariants.{Decide}
@@ -29,10 +29,10 @@ module _ (o : Opening) (p l : ℕ) where
 
   module _ (es : List Event) (e : Event) (reached : p ≤ length es) (s : Settled o es p l) where
     -- an entry that comes to a lower place doesn't put the location
-    unput : (y : Placed) → Decision o es e y → y.place < p → put_by y l ≡ None
-    unput y d lt = go (put_by y l) refl
+    unput : (y : Placed) → Decision o es e y → y.place < p → put_by_entry y l ≡ None
+    unput y d lt = go (put_by_entry y l) refl
       where
-        go : (t : Option Put) → put_by y l ≡ t → put_by y l ≡ None
+        go : (t : Option Put) → put_by_entry y l ≡ t → put_by_entry y l ≡ None
         go None q = q
         go (Some t) q =
             let v = line_that_puts d.lines l (sym (ap (λ (k : Footprint). is_some (put_at k.puts.items l)) d.footprint) ∙ ap is_some q) in

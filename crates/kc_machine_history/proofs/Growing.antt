@@ -9,7 +9,7 @@ use Rattle.std.proofs.Math.Seq.{take-append_seam, take-length, take-nil}
 use borrow.Author.Tests.{eqb-true}
 use Rattle.kc_machine_traces.specs.kc_machine.Machine.{Opening, seat_of}
 use Rattle.kc_machine_traces.specs.Claims.{HistoriesGrow, history_at}
-use Rattle.kc_machine_traces.specs.Histories.{History, Placed, inserted, ending, at_place, put_of_line, footprint_of, installs, cell_of, FindsInstalled, Grows, IsKnown, IsLegalWhereInstalled}
+use Rattle.kc_machine_traces.specs.Histories.{History, Placed, inserted, ending_store, at_place, put_of_line, footprint_of, installs, seen_as_cell, FindsInstalled, Grows, IsKnown, IsLegalWhereInstalled}
 use Rattle.kc_machine_traces.specs.Traces.{first_store, trace}
 use Rattle.kc_machine_traces.specs.kc_machine_invariants.Stands.{At}
 use Rattle.kc_machine_history.proofs.Decisions.{history_moves, moves_by_decision}
@@ -18,7 +18,7 @@ use Rattle.kc_machine_history.proofs.Insertions.{ending_same, ending_last, at_ne
 use Rattle.kc_machine_history.proofs.Legality.{installed_inserted}
 use Rattle.kc_machine_history.proofs.Places.{rises, below, new_place}
 use Rattle.kc_machine_history.specs.Decisions.{Decision, MovesByDecision}
-use Rattle.kc_machine_history.specs.Insertions.{put_by, IsBelowPlace, IsLastWherePut, IsNewPlace, NoneInstallsAbove, NonePutsAbove}
+use Rattle.kc_machine_history.specs.Insertions.{put_by_entry, IsBelowPlace, IsLastWherePut, IsNewPlace, NoneInstallsAbove, NonePutsAbove}
 use Rattle.kc_machine_history.specs.Later.{NoneTouchesAbove, DecidesSoon, NothingLaterTouches, NothingLaterTouchesAlong}
 use Rattle.kc_machine_traces.specs.kc_machine_steps.Lines.{has_put, is_installed}
 use Rattle.kc_model.specs.declared.footprint.Line.{Line}
@@ -102,7 +102,7 @@ module _ (o : Opening) (es : List Event) (e : Event) (f : NothingLaterTouches o 
     none_above : (l : ℕ) → LineInstalled x.mode d.lines l → NoneTouchesAbove x.place old l
     none_above l y = subst (NoneTouchesAbove x.place old) y.at (f (seat_of e) x.place x.mode d.lines soon y.line y.among y.installed)
 
-    above_put : (l : ℕ) → is_some (put_by x l) ≡ true → NoneTouchesAbove x.place old l
+    above_put : (l : ℕ) → is_some (put_by_entry x l) ≡ true → NoneTouchesAbove x.place old l
     above_put l q = none_above l (line_put x.mode d.lines l (sym (ap (λ (g : Footprint). is_some (put_at g.puts.items l)) d.footprint) ∙ q))
 
     last : IsLastWherePut x old
@@ -111,34 +111,34 @@ module _ (o : Opening) (es : List Event) (e : Event) (f : NothingLaterTouches o 
     pub grows_by : Grows old (inserted x old)
     grows_by = grows_inserted x old (rises o es) last
 
-    pub ends_by : (l : ℕ) → ending s (inserted x old) l ≡ cell_after (put_by x l) (ending s old l)
-    ends_by l = go (put_by x l) refl
+    pub ends_by : (l : ℕ) → ending_store s (inserted x old) l ≡ cell_after (put_by_entry x l) (ending_store s old l)
+    ends_by l = go (put_by_entry x l) refl
       where
-        go : (p : Option Put) → put_by x l ≡ p → ending s (inserted x old) l ≡ cell_after (put_by x l) (ending s old l)
-        go None q = ending_same s x old l q ∙ sym (ap (λ p. cell_after p (ending s old l)) q)
+        go : (p : Option Put) → put_by_entry x l ≡ p → ending_store s (inserted x old) l ≡ cell_after (put_by_entry x l) (ending_store s old l)
+        go None q = ending_same s x old l q ∙ sym (ap (λ p. cell_after p (ending_store s old l)) q)
         go (Some p) q = ending_last s x old l (rises o es) (last l (ap is_some q))
 
     -- what it installs is as the whole history makes it
-    found : FindsInstalled x (ending s old) → FindsInstalled x (at_place s old x.place)
+    found : FindsInstalled x (ending_store s old) → FindsInstalled x (at_place s old x.place)
     found g r c i =
         let b : NoneTouchesAbove x.place old r.loc.0 = none_above r.loc.0 (line_installed x.mode d.lines r (subst (λ z. Reads z r) d.footprint c) (sym (ap (λ z. installs x.mode z r.loc.0) d.footprint) ∙ i)) in
         at_new s old x.place r.loc.0 (λ y z l. (b y z l).1) (new_place o es (seat_of e) x.place d.place) ∙ g r c i
 
     unread : NoneInstallsAbove x old
-    unread y c b r a i = go (put_by x r.loc.0) refl
+    unread y c b r a i = go (put_by_entry x r.loc.0) refl
       where
-        go : (p : Option Put) → put_by x r.loc.0 ≡ p → put_by x r.loc.0 ≡ None
+        go : (p : Option Put) → put_by_entry x r.loc.0 ≡ p → put_by_entry x r.loc.0 ≡ None
         go None q = q
         go (Some p) q = absurd ((above_put r.loc.0 (ap is_some q) y c b).0 r a refl)
 
-    pub known_by : (r : Seen) → IsKnown s (inserted x old) r → IsKnown s old r ⊎ (ending s (inserted x old) r.loc.0 ≡ cell_of r)
-    known_by r k = go (put_by x r.loc.0) refl
+    pub known_by : (r : Seen) → IsKnown s (inserted x old) r → IsKnown s old r ⊎ (ending_store s (inserted x old) r.loc.0 ≡ seen_as_cell r)
+    known_by r k = go (put_by_entry x r.loc.0) refl
       where
-        go : (p : Option Put) → put_by x r.loc.0 ≡ p → IsKnown s old r ⊎ (ending s (inserted x old) r.loc.0 ≡ cell_of r)
+        go : (p : Option Put) → put_by_entry x r.loc.0 ≡ p → IsKnown s old r ⊎ (ending_store s (inserted x old) r.loc.0 ≡ seen_as_cell r)
         go None q = inl (known_same s x old r q k)
         go (Some p) q = known_or_end s x old r (rises o es) (last r.loc.0 (ap is_some q)) k
 
-    pub legal_by : IsLegalWhereInstalled s old → FindsInstalled x (ending s old) → IsLegalWhereInstalled s (inserted x old)
+    pub legal_by : IsLegalWhereInstalled s old → FindsInstalled x (ending_store s old) → IsLegalWhereInstalled s (inserted x old)
     legal_by l g = installed_inserted s x old (rises o es) (new_place o es (seat_of e) x.place d.place) l (found g) unread
 
   -- no entry has a place above that of a swap
@@ -155,23 +155,23 @@ module _ (o : Opening) (es : List Event) (e : Event) (f : NothingLaterTouches o 
     pub swap_grows : Grows old (inserted x old)
     swap_grows = grows_inserted x old (rises o es) (λ l q. none_puts l)
 
-    pub swap_ends_by : (l : ℕ) → ending s (inserted x old) l ≡ cell_after (put_by x l) (ending s old l)
+    pub swap_ends_by : (l : ℕ) → ending_store s (inserted x old) l ≡ cell_after (put_by_entry x l) (ending_store s old l)
     swap_ends_by l = ending_last s x old l (rises o es) (none_puts l)
 
-    pub swap_known_by : (r : Seen) → IsKnown s (inserted x old) r → IsKnown s old r ⊎ (ending s (inserted x old) r.loc.0 ≡ cell_of r)
+    pub swap_known_by : (r : Seen) → IsKnown s (inserted x old) r → IsKnown s old r ⊎ (ending_store s (inserted x old) r.loc.0 ≡ seen_as_cell r)
     swap_known_by r k = known_or_end s x old r (rises o es) (none_puts r.loc.0) k
 
     -- at its place stands what the whole history makes
-    pub swap_at : (l : ℕ) → at_place s old x.place l ≡ ending s old l
+    pub swap_at : (l : ℕ) → at_place s old x.place l ≡ ending_store s old l
     swap_at l = at_new s old x.place l (none_puts l) swap_place
 
-    pub swap_legal_by : IsLegalWhereInstalled s old → FindsInstalled x (ending s old) → IsLegalWhereInstalled s (inserted x old)
+    pub swap_legal_by : IsLegalWhereInstalled s old → FindsInstalled x (ending_store s old) → IsLegalWhereInstalled s (inserted x old)
     swap_legal_by l g = installed_inserted s x old (rises o es) swap_place l (λ r c i. swap_at r.loc.0 ∙ g r c i) (λ y c b r a i. let z = below_swap y c in absurd (omega arith))
 
   pub grows_once : Grows old (trace o (es ++ e ∷ [])).history
   grows_once = history_moves o es e (Grows old) (grows_same old) grows_by swap_grows
 
-  pub legal_once : IsLegalWhereInstalled s old → ((x : Placed) → Decision o es e x → FindsInstalled x (ending s old)) → ((x : Placed) → SwapOf (run o es) e (length es) x → FindsInstalled x (ending s old)) → IsLegalWhereInstalled s (trace o (es ++ e ∷ [])).history
+  pub legal_once : IsLegalWhereInstalled s old → ((x : Placed) → Decision o es e x → FindsInstalled x (ending_store s old)) → ((x : Placed) → SwapOf (run o es) e (length es) x → FindsInstalled x (ending_store s old)) → IsLegalWhereInstalled s (trace o (es ++ e ∷ [])).history
   legal_once l g q = history_moves o es e (IsLegalWhereInstalled s) l (λ x d. legal_by x d l (g x d)) (λ x d. swap_legal_by x d l (q x d))
 
 -- ---- a schedule
@@ -223,50 +223,50 @@ module _ (o : Opening) where
   record Stood (es : List Event) (r : Seen) : Type 0 where
     at : ℕ
     within : at ≤ length es
-    there : ending first (history_at o es at) r.loc.0 ≡ cell_of r
+    there : ending_store first (history_at o es at) r.loc.0 ≡ seen_as_cell r
 
   module _ (es : List Event) (e : Event) (f : NothingLaterTouches o es) (r : Seen) where
     stood_before : Stood es r → Stood (es ++ e ∷ []) r
-    stood_before w = record { at = w.at; within = (let l = w.within in let k = length-append es (e ∷ []) in omega arith); there = ap (λ xs. ending first (trace o xs).history r.loc.0) (earlier es e w.at w.within) ∙ w.there }
+    stood_before w = record { at = w.at; within = (let l = w.within in let k = length-append es (e ∷ []) in omega arith); there = ap (λ xs. ending_store first (trace o xs).history r.loc.0) (earlier es e w.at w.within) ∙ w.there }
 
     stood_on : (IsKnown first (trace o es).history r → Stood es r) → IsKnown first (trace o (es ++ e ∷ [])).history r → Stood (es ++ e ∷ []) r
     stood_on g = go (moves_by_decision o es e)
       where
-        end : ending first (trace o (es ++ e ∷ [])).history r.loc.0 ≡ cell_of r → Stood (es ++ e ∷ []) r
-        end q = record { at = length (es ++ e ∷ []); within = omega arith; there = ap (λ xs. ending first (trace o xs).history r.loc.0) (take-length (es ++ e ∷ [])) ∙ q }
+        end : ending_store first (trace o (es ++ e ∷ [])).history r.loc.0 ≡ seen_as_cell r → Stood (es ++ e ∷ []) r
+        end q = record { at = length (es ++ e ∷ []); within = omega arith; there = ap (λ xs. ending_store first (trace o xs).history r.loc.0) (take-length (es ++ e ∷ [])) ∙ q }
 
-        at : (x : Placed) → (trace o (es ++ e ∷ [])).history ≡ inserted x (trace o es).history → IsKnown first (trace o es).history r ⊎ (ending first (inserted x (trace o es).history) r.loc.0 ≡ cell_of r) → Stood (es ++ e ∷ []) r
+        at : (x : Placed) → (trace o (es ++ e ∷ [])).history ≡ inserted x (trace o es).history → IsKnown first (trace o es).history r ⊎ (ending_store first (inserted x (trace o es).history) r.loc.0 ≡ seen_as_cell r) → Stood (es ++ e ∷ []) r
         at x q (inl k) = stood_before (g k)
-        at x q (inr z) = end (ap (λ h. ending first h r.loc.0) q ∙ z)
+        at x q (inr z) = end (ap (λ h. ending_store first h r.loc.0) q ∙ z)
 
         go : MovesByDecision o es e → IsKnown first (trace o (es ++ e ∷ [])).history r → Stood (es ++ e ∷ []) r
         go (inl q) k = stood_before (g (subst (λ h. IsKnown first h r) q k))
         go (inr (inr (x, d, q))) k = at x q (swap_known_by o es e f x d r (subst (λ h. IsKnown first h r) q k))
         go (inr (inl (x, d, q))) k = at x q (known_last x d (subst (λ h. IsKnown first h r) q k))
           where
-            known_last : (x : Placed) → Decision o es e x → IsKnown first (inserted x (trace o es).history) r → IsKnown first (trace o es).history r ⊎ (ending first (inserted x (trace o es).history) r.loc.0 ≡ cell_of r)
+            known_last : (x : Placed) → Decision o es e x → IsKnown first (inserted x (trace o es).history) r → IsKnown first (trace o es).history r ⊎ (ending_store first (inserted x (trace o es).history) r.loc.0 ≡ seen_as_cell r)
             known_last x d k = known_by o es e f x d r k
 
   known_stood : (r : Seen) (es : List Event) → NothingLaterTouchesAlong o es → IsKnown first (trace o es).history r → Stood es r
   known_stood r = every (λ es. NothingLaterTouchesAlong o es → IsKnown first (trace o es).history r → Stood es r)
       (λ es e g f. stood_on es e (before es e f) r (g (along es e f)))
-      (λ f k. record { at = 0; within = omega arith; there = sym (ap (λ h. ending first h r.loc.0) (take-nil k.0)) ∙ k.1 })
+      (λ f k. record { at = 0; within = omega arith; there = sym (ap (λ h. ending_store first h r.loc.0) (take-nil k.0)) ∙ k.1 })
 
   -- likewise since a moment at which the version was no higher
-  pub stood_since : (es : List Event) → NothingLaterTouchesAlong o es → (r : Seen) (n : ℕ) → n ≤ length es → (ending first (history_at o es n) r.loc.0).version ≤ r.version → IsKnown first (trace o es).history r
-      → (i : ℕ) × (n ≤ i) × (i ≤ length es) × (ending first (history_at o es i) r.loc.0 ≡ cell_of r)
+  pub stood_since : (es : List Event) → NothingLaterTouchesAlong o es → (r : Seen) (n : ℕ) → n ≤ length es → (ending_store first (history_at o es n) r.loc.0).version ≤ r.version → IsKnown first (trace o es).history r
+      → (i : ℕ) × (n ≤ i) × (i ≤ length es) × (ending_store first (history_at o es i) r.loc.0 ≡ seen_as_cell r)
   stood_since es f r n l v k = go (known_stood r es f k)
     where
-      go : Stood es r → (i : ℕ) × (n ≤ i) × (i ≤ length es) × (ending first (history_at o es i) r.loc.0 ≡ cell_of r)
+      go : Stood es r → (i : ℕ) × (n ≤ i) × (i ≤ length es) × (ending_store first (history_at o es i) r.loc.0 ≡ seen_as_cell r)
       go w = at (cases_lt w.at n)
         where
-          at : (w.at < n) ⊎ (n ≤ w.at) → (i : ℕ) × (n ≤ i) × (i ≤ length es) × (ending first (history_at o es i) r.loc.0 ≡ cell_of r)
+          at : (w.at < n) ⊎ (n ≤ w.at) → (i : ℕ) × (n ≤ i) × (i ≤ length es) × (ending_store first (history_at o es i) r.loc.0 ≡ seen_as_cell r)
           at (inr b) = (w.at, b, w.within, w.there)
           at (inl b) =
               let g = histories_grow_between es f w.at n (omega arith) in
-              let c = ending first (history_at o es n) r.loc.0 in
+              let c = ending_store first (history_at o es n) r.loc.0 in
               let up = versions_rise first (history_at o es w.at) (history_at o es n) r.loc.0 g in
-              let u : (ending first (history_at o es w.at) r.loc.0).version ≡ r.version = ap (λ (z : Cell). z.version) w.there in
+              let u : (ending_store first (history_at o es w.at) r.loc.0).version ≡ r.version = ap (λ (z : Cell). z.version) w.there in
               let t : Seen = record { loc = r.loc; version = c.version; value = c.value } in
-              let same : cell_of r ≡ cell_of t = one_value first (history_at o es n) r t refl (omega arith) (known_stays first (history_at o es w.at) (history_at o es n) r g (end_known first (history_at o es w.at) r w.there)) (end_known first (history_at o es n) t refl) in
+              let same : seen_as_cell r ≡ seen_as_cell t = one_value first (history_at o es n) r t refl (omega arith) (known_stays first (history_at o es w.at) (history_at o es n) r g (end_known first (history_at o es w.at) r w.there)) (end_known first (history_at o es n) t refl) in
               (n, omega arith, l, sym same)

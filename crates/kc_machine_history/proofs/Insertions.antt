@@ -5,9 +5,9 @@ use Rattle.std.specs.Option.{is_some}
 use Rattle.std.specs.List.{filter}
 use Rattle.std.proofs.lemmas.Bool.{lt-ltb, le-ltb, ltb-true, ltb-false}
 use Rattle.kc_machine_traces.proofs.ByPlace.{places, low, above_all, one_of}
-use Rattle.kc_machine_traces.specs.Histories.{History, Placed, inserted, ending, at_place, putting, RisesByPlace, IsAmong, none, here, later, IsFront, Grows}
+use Rattle.kc_machine_traces.specs.Histories.{History, Placed, inserted, ending_store, at_place, putting, RisesByPlace, IsAmong, none, here, later, IsFront, Grows}
 use Rattle.kc_machine_history.proofs.Filters.{filter_twice, filter_keeps, filter_none}
-use Rattle.kc_machine_history.specs.Insertions.{put_by, IsNewPlace, NonePutsAbove, IsLastWherePut}
+use Rattle.kc_machine_history.specs.Insertions.{put_by_entry, IsNewPlace, NonePutsAbove, IsLastWherePut}
 use Rattle.kc_machine_traces.proofs.Known.{cell_from, ending_is, cell_putting, cell_append, front_trans}
 use Rattle.kc_model.proofs.Stores.{Contains-first, Contains-later}
 use Rattle.kc_model.specs.Rising.{IsRisingAbove}
@@ -17,7 +17,7 @@ use Rattle.kc_model.specs.declared.footprint.Put.{Put}
 -- ---- what passes a test
 
 abbrev pub puts : ℕ → Placed → Bool
-puts l x = is_some (put_by x l)
+puts l x = is_some (put_by_entry x l)
 
 pub filter_without : (t : Placed → Bool) (x : Placed) (h : History) → t x ≡ false → filter t (inserted x h) ≡ filter t h
 filter_without t x [] e = ap (λ b. cond b (x ∷ []) []) e
@@ -81,45 +81,45 @@ inserted_contains x (z ∷ h) y P p f c = go (inserted_contains x h y P p (λ w 
 
 -- ---- by location
 
-pub putting_same : (x : Placed) (h : History) (l : ℕ) → put_by x l ≡ None → putting l (inserted x h) ≡ putting l h
+pub putting_same : (x : Placed) (h : History) (l : ℕ) → put_by_entry x l ≡ None → putting l (inserted x h) ≡ putting l h
 putting_same x h l e = filter_without (puts l) x h (ap is_some e)
 
-pub putting_last : (x : Placed) (h : History) (l : ℕ) → RisesByPlace h → is_some (put_by x l) ≡ true → NonePutsAbove x.place h l → putting l (inserted x h) ≡ putting l h ++ x ∷ []
+pub putting_last : (x : Placed) (h : History) (l : ℕ) → RisesByPlace h → is_some (put_by_entry x l) ≡ true → NonePutsAbove x.place h l → putting l (inserted x h) ≡ putting l h ++ x ∷ []
 putting_last x h l r e f = filter_last (puts l) x h r e (λ y c b. ap is_some (f y c b))
 
-pub ending_putting : (s : Store) (h : History) (l : ℕ) → ending s h l ≡ cell_from l (s l) (putting l h)
+pub ending_putting : (s : Store) (h : History) (l : ℕ) → ending_store s h l ≡ cell_from l (s l) (putting l h)
 ending_putting s h l = ending_is s h l ∙ cell_putting l (s l) h
 
-pub ending_same : (s : Store) (x : Placed) (h : History) (l : ℕ) → put_by x l ≡ None → ending s (inserted x h) l ≡ ending s h l
+pub ending_same : (s : Store) (x : Placed) (h : History) (l : ℕ) → put_by_entry x l ≡ None → ending_store s (inserted x h) l ≡ ending_store s h l
 ending_same s x h l e = ending_putting s (inserted x h) l ∙ ap (cell_from l (s l)) (putting_same x h l e) ∙ sym (ending_putting s h l)
 
-one_cell : (l : ℕ) (c : _) (x : Placed) → cell_from l c (x ∷ []) ≡ cell_after (put_by x l) c
+one_cell : (l : ℕ) (c : _) (x : Placed) → cell_from l c (x ∷ []) ≡ cell_after (put_by_entry x l) c
 unfolding cell_from
 one_cell l c x = refl
 
-pub ending_last : (s : Store) (x : Placed) (h : History) (l : ℕ) → RisesByPlace h → NonePutsAbove x.place h l → ending s (inserted x h) l ≡ cell_after (put_by x l) (ending s h l)
-ending_last s x h l r f = go (put_by x l) refl
+pub ending_last : (s : Store) (x : Placed) (h : History) (l : ℕ) → RisesByPlace h → NonePutsAbove x.place h l → ending_store s (inserted x h) l ≡ cell_after (put_by_entry x l) (ending_store s h l)
+ending_last s x h l r f = go (put_by_entry x l) refl
   where
-    go : (o : Option Put) → put_by x l ≡ o → ending s (inserted x h) l ≡ cell_after (put_by x l) (ending s h l)
-    go None e = ending_same s x h l e ∙ sym (ap (λ o. cell_after o (ending s h l)) e)
+    go : (o : Option Put) → put_by_entry x l ≡ o → ending_store s (inserted x h) l ≡ cell_after (put_by_entry x l) (ending_store s h l)
+    go None e = ending_same s x h l e ∙ sym (ap (λ o. cell_after o (ending_store s h l)) e)
     go (Some p) e =
         ending_putting s (inserted x h) l ∙ ap (cell_from l (s l)) (putting_last x h l r (ap is_some e) f) ∙ cell_append l (s l) (putting l h) (x ∷ [])
-        ∙ one_cell l _ x ∙ ap (cell_after (put_by x l)) (sym (ending_putting s h l))
+        ∙ one_cell l _ x ∙ ap (cell_after (put_by_entry x l)) (sym (ending_putting s h l))
 
 -- ---- at a place
 
 pub at_lower : (s : Store) (x : Placed) (h : History) (q : ℕ) → q ≤ x.place → at_place s (inserted x h) q ≡ at_place s h q
-at_lower s x h q l = ap (ending s) (filter_without (low q) x h (le-ltb x.place q l))
+at_lower s x h q l = ap (ending_store s) (filter_without (low q) x h (le-ltb x.place q l))
 
 -- the puts of a location below a place
 pub at_putting : (s : Store) (h : History) (q l : ℕ) → at_place s h q l ≡ cell_from l (s l) (filter (low q) (putting l h))
 at_putting s h q l = ending_putting s (filter (low q) h) l ∙ ap (cell_from l (s l)) (filter_twice (puts l) (low q) h)
 
-pub at_else : (s : Store) (x : Placed) (h : History) (q l : ℕ) → put_by x l ≡ None → at_place s (inserted x h) q l ≡ at_place s h q l
+pub at_else : (s : Store) (x : Placed) (h : History) (q l : ℕ) → put_by_entry x l ≡ None → at_place s (inserted x h) q l ≡ at_place s h q l
 at_else s x h q l e = at_putting s (inserted x h) q l ∙ ap (λ g. cell_from l (s l) (filter (low q) g)) (putting_same x h l e) ∙ sym (at_putting s h q l)
 
 -- from the last put of a location on what stands there is what the history makes
-pub at_end : (s : Store) (h : History) (p q l : ℕ) → NonePutsAbove p h l → p < q → at_place s h q l ≡ ending s h l
+pub at_end : (s : Store) (h : History) (p q l : ℕ) → NonePutsAbove p h l → p < q → at_place s h q l ≡ ending_store s h l
 at_end s h p q l f b = at_putting s h q l ∙ ap (cell_from l (s l)) (filter_keeps (puts l) (low q) h keeps) ∙ sym (ending_putting s h l)
   where
     keeps : (y : Placed) → Contains h y → puts l y ≡ true → low q y ≡ true
@@ -130,7 +130,7 @@ at_end s h p q l f b = at_putting s h q l ∙ ap (cell_from l (s l)) (filter_kee
         go false e = let m = ltb-false p y.place e in lt-ltb y.place q (omega arith)
 
 -- likewise at a new place
-pub at_new : (s : Store) (h : History) (p l : ℕ) → NonePutsAbove p h l → IsNewPlace p h → at_place s h p l ≡ ending s h l
+pub at_new : (s : Store) (h : History) (p l : ℕ) → NonePutsAbove p h l → IsNewPlace p h → at_place s h p l ≡ ending_store s h l
 at_new s h p l f n = at_putting s h p l ∙ ap (cell_from l (s l)) (filter_keeps (puts l) (low p) h keeps) ∙ sym (ending_putting s h l)
   where
     keeps : (y : Placed) → Contains h y → puts l y ≡ true → low p y ≡ true
@@ -167,8 +167,8 @@ pub grows_on : (a b c : History) → Grows a b → Grows b c → Grows a c
 grows_on a b c f g = (among_on f.0 g.0, λ l. front_trans (putting l a) (putting l b) (putting l c) (f.1 l) (g.1 l))
 
 pub grows_inserted : (x : Placed) (h : History) → RisesByPlace h → IsLastWherePut x h → Grows h (inserted x h)
-grows_inserted x h r f = (among_inserted x h, λ l. go l (put_by x l) refl)
+grows_inserted x h r f = (among_inserted x h, λ l. go l (put_by_entry x l) refl)
   where
-    go : (l : ℕ) (o : Option Put) → put_by x l ≡ o → IsFront (putting l h) (putting l (inserted x h))
+    go : (l : ℕ) (o : Option Put) → put_by_entry x l ≡ o → IsFront (putting l h) (putting l (inserted x h))
     go l None e = ([], putting_same x h l e ∙ sym (append-nil (putting l h)))
     go l (Some p) e = (x ∷ [], putting_last x h l r (ap is_some e) (f l (ap is_some e)))

@@ -27,14 +27,14 @@ use Rattle.kc_machine_traces.specs.kc_machine.Seats.{is_idle}
 use Rattle.kc_machine_traces.specs.kc_machine.declared.seat.Seat.{Seat}
 use Rattle.kc_machine_traces.specs.Histories.{IsKnown}
 use Rattle.kc_machine_traces.specs.Traces.{Moment, BeginsHonestly, IsHonest, first_store, trace}
-use Rattle.kc_machine_traces.specs.kc_machine_invariants.Stands.{stand, works, resting, commits, hangs}
+use Rattle.kc_machine_traces.specs.kc_machine_invariants.Stands.{stand, works, resting, stand_commits, stand_hangs}
 use Rattle.kc_machine_history.proofs.Successes.{Stays, Starts, moves, kept}
-use Rattle.kc_machine_history.specs.Decisions.{own_of}
+use Rattle.kc_machine_history.specs.Decisions.{seat_own}
 use Rattle.kc_machine_traces.proofs.Answers.{answers_when_done}
 use Rattle.kc_machine_traces.proofs.Joins.{every, honest_parts}
 use Rattle.kc_machine_traces.proofs.Onward.{IsIntentOf, Left}
 use Rattle.kc_machine_traces.proofs.Outcomes.{owned}
-use Rattle.kc_machine_traces.specs.Entries.{by, own_intent}
+use Rattle.kc_machine_traces.specs.Entries.{placed_by, own_intent}
 
 -- ---- the task that a seat's shadow names
 
@@ -81,12 +81,12 @@ at_work s i = go s.work refl
     some : {a b : Intent} → ◌≡◌ {A = Option Intent} (Some a) (Some b) → a ≡ b
     some q = cc
 
-    stages : (c : Commit) (x : Stage) → s.work ≡ work.Commit c → own_intent (commits (record (resting s) { halted = c.halted }) c.intent c.copy x).own ≡ Some i → Works s i
+    stages : (c : Commit) (x : Stage) → s.work ≡ work.Commit c → own_intent (stand_commits (record (resting s) { halted = c.halted }) c.intent c.copy x).own ≡ Some i → Works s i
     stages c (stage.Scan d worn) e q = absurd (cc)
     stages c (stage.Take d g) e q = absurd (cc)
     stages c (stage.Own h step) e q = record { commit = c; work = e; intent = some (sym (owned (record (resting s) { halted = c.halted }) c.intent c.copy h step).2 ∙ q) }
 
-    waits : (reads : List Seen) (step : HangStep) → own_intent (hangs (resting s) reads step).own ≡ Some i → Works s i
+    waits : (reads : List Seen) (step : HangStep) → own_intent (stand_hangs (resting s) reads step).own ≡ Some i → Works s i
     waits reads (hang.Set j) q = absurd (cc)
     waits reads (hang.Look j step) q = absurd (cc)
     waits reads (hang.Clear j n) q = absurd (cc)
@@ -105,7 +105,7 @@ read_of_line ps [] x c = absurd (omega (arith, c.1))
 read_of_line ps (r ∷ rs) x (zero, l, e) = subst (Contains (r ∷ rs)) (ap (λ (y : Line). y.seen) e) (Contains-first r rs)
 read_of_line ps (r ∷ rs) x (suc i, l, e) = Contains-later r rs x.seen (read_of_line ps rs x (i, omega arith, e))
 
-pub knew_its_reads : (o : Opening) (es : List Event) → IsSchedule o es → IsHonest o es → (k : ℕ) (i : Intent) (x : Line) → k < o.callers → own_intent (own_of o es k) ≡ Some i → Contains i.lines.items x → IsKnown (first_store o) ((trace o es).shadows k).begun.history x.seen
+pub knew_its_reads : (o : Opening) (es : List Event) → IsSchedule o es → IsHonest o es → (k : ℕ) (i : Intent) (x : Line) → k < o.callers → own_intent (seat_own o es k) ≡ Some i → Contains i.lines.items x → IsKnown (first_store o) ((trace o es).shadows k).begun.history x.seen
 knew_its_reads o es w h k i x l q c = go ((trace o es).shadows k).task refl
   where
     y : Works ((run o es).seats k) i
@@ -127,5 +127,5 @@ knew_its_reads o es w h k i x l q c = go ((trace o es).shadows k).task refl
     go None e = let z = ((answers_when_done o es k).busy busy).1 in let u : is_some ((trace o es).shadows k).task ≡ false = ap is_some e in absurd (cc)
     go (Some t) e =
         let s = (run o es).seats k in
-        let z = subst (λ v. Left (run o es).world k s.calls t s.told v (by k ((trace o es).shadows k).begun.history) (by k (trace o es).history)) y.work ((kept o k l es w).left t e) in
+        let z = subst (λ v. Left (run o es).world k s.calls t s.told v (placed_by k ((trace o es).shadows k).begun.history) (placed_by k (trace o es).history)) y.work ((kept o k l es w).left t e) in
         by_task t e z.1

@@ -28,8 +28,8 @@ use Rattle.kc_machine_history.specs.kc_machine_invariants.Stands.{Over, Turn}
 use Rattle.kc_machine_history.proofs.Filters.{found}
 use Rattle.kc_machine_history.proofs.Knew.{Works, at_work, knew_its_reads}
 use Rattle.kc_machine_history.proofs.Successes.{kept}
-use Rattle.kc_machine_history.specs.Decisions.{own_of}
-use Rattle.kc_machine_history.specs.Places.{pass_of}
+use Rattle.kc_machine_history.specs.Decisions.{seat_own}
+use Rattle.kc_machine_history.specs.Places.{seat_pass}
 use Rattle.kc_machine_history.proofs.kc_machine_traces.PassWords.{over_owners}
 use Rattle.kc_machine_history.proofs.kc_machine_invariants.Filled.{task_held}
 use Rattle.kc_machine_history.proofs.kc_machine_invariants.LifeLaws.{statuses_follow}
@@ -41,7 +41,7 @@ use Rattle.kc_machine_history.proofs.kc_machine_traces.Answers.{answers_when_don
 use Rattle.kc_machine_history.proofs.kc_machine_traces.Moments.{begun_moment}
 use Rattle.kc_machine_history.proofs.kc_machine_traces.Onward.{IsIntentOf, Left}
 use Rattle.kc_machine_history.proofs.kc_machine_traces.Others.{run_shape}
-use Rattle.kc_machine_history.specs.kc_machine_traces.Entries.{by, own_intent}
+use Rattle.kc_machine_history.specs.kc_machine_traces.Entries.{placed_by, own_intent}
 use Rattle.kc_machine_history.specs.kc_machine_words.declared.words.Status.{Status}
 
 -- ---- what an owner is asked
@@ -73,7 +73,7 @@ module _ (o : Opening) (es : List Event) (w : IsSchedule o es) (k : ℕ) (l : k 
   of_commit (task.Leave reads) i q y = absurd y
   of_commit (task.Swap r after) i q y = absurd y
 
-  asked_by : (i : Intent) → own_intent (own_of o es k) ≡ Some i → IsAsked o.locations asked i
+  asked_by : (i : Intent) → own_intent (seat_own o es k) ≡ Some i → IsAsked o.locations asked i
   asked_by i q = go asked refl ((answers_when_done o es k).busy (ap is_idle y.work)).1
     where
       y : Works s i
@@ -82,8 +82,8 @@ module _ (o : Opening) (es : List Event) (w : IsSchedule o es) (k : ℕ) (l : k 
       go : (t : Option Task) → asked ≡ t → is_some asked ≡ true → IsAsked o.locations asked i
       go None e b = let z : is_some asked ≡ false = ap is_some e in absurd (cc)
       go (Some t) e b =
-          let a = by k ((trace o es).shadows k).begun.history in
-          let f : Left (run o es).world k s.calls t s.told (work.Commit y.commit) a (by k (trace o es).history) = subst (λ x. Left (run o es).world k s.calls t s.told x a (by k (trace o es).history)) y.work ((kept o k l es w).left t e) in
+          let a = placed_by k ((trace o es).shadows k).begun.history in
+          let f : Left (run o es).world k s.calls t s.told (work.Commit y.commit) a (placed_by k (trace o es).history) = subst (λ x. Left (run o es).world k s.calls t s.told x a (placed_by k (trace o es).history)) y.work ((kept o k l es w).left t e) in
           of_commit t i e (subst (IsIntentOf t) y.intent f.1)
 
 -- ---- the lines of a pass over what is Active are those of its owner's task
@@ -98,26 +98,26 @@ pub record OwnerAsked (o : Opening) (es : List Event) (h : Handle) (mode : Mode)
   pub owner : ℕ
   pub within : owner < o.callers
   pub owns : OwnsLife (run o es) owner h.descriptor h.generation
-  pub begun : is_filling (own_of o es owner) ≡ false
-  pub intent : own_intent (own_of o es owner) ≡ Some (intent_of mode xs)
+  pub begun : is_filling (seat_own o es owner) ≡ false
+  pub intent : own_intent (seat_own o es owner) ≡ Some (intent_of mode xs)
   pub footprint : Footprint
   pub asks : ((trace o es).shadows owner).task ≡ Some (task.Commit footprint mode)
   pub lines : xs ≡ lines_of footprint
   pub made : IsWellMadeTask o.locations (task.Commit footprint mode)
 
 module _ (o : Opening) (es : List Event) (w : IsSchedule o es) where
-  pub owner_asked : (j : ℕ) (h : Handle) (mode : Mode) (xs : List Line) (t : Turn) → j < o.callers → pass_of o es j ≡ Over h mode xs t → (run o es).world.status h.descriptor ≡ status h.generation Active → OwnerAsked o es h mode xs
+  pub owner_asked : (j : ℕ) (h : Handle) (mode : Mode) (xs : List Line) (t : Turn) → j < o.callers → seat_pass o es j ≡ Over h mode xs t → (run o es).world.status h.descriptor ≡ status h.generation Active → OwnerAsked o es h mode xs
   owner_asked j h mode xs t l q act = go (over_owners o es j h mode xs (let c = (run_shape o es).2 in omega arith) (t, q) act)
     where
-      at : (k : ℕ) (low : k < (run o es).callers) (within : k < o.callers) → Filled.task (own_of o es k) ≡ Some (h, intent_of mode xs) → own_intent (own_of o es k) ≡ Some (intent_of mode xs) → OwnerAsked o es h mode xs
+      at : (k : ℕ) (low : k < (run o es).callers) (within : k < o.callers) → Filled.task (seat_own o es k) ≡ Some (h, intent_of mode xs) → own_intent (seat_own o es k) ≡ Some (intent_of mode xs) → OwnerAsked o es h mode xs
       at k low within y intent =
           let c = asked_by o es w k within (intent_of mode xs) intent in
-          let owns = task_held (own_of o es k) h (intent_of mode xs) y in
+          let owns = task_held (seat_own o es k) h (intent_of mode xs) y in
           record {
             owner = k;
             within = within;
             owns = owns;
-            begun = started (is_filling (own_of o es k)) (statuses_follow o es k h.descriptor h.generation low owns);
+            begun = started (is_filling (seat_own o es k)) (statuses_follow o es k h.descriptor h.generation low owns);
             intent = intent;
             footprint = c.footprint;
             asks = c.asks;
@@ -129,8 +129,8 @@ module _ (o : Opening) (es : List Event) (w : IsSchedule o es) where
           started true f = let s = ap (λ (s : Status). s.generation) act in absurd (omega arith)
           started false f = refl
 
-      go : (k : ℕ) × (k < (run o es).callers) × (Filled.task (own_of o es k) ≡ Some (h, intent_of mode xs)) → OwnerAsked o es h mode xs
-      go (k, low, y) = at k low (let c = (run_shape o es).2 in omega arith) y (intent_of_task o es w (own_of o es k) h (intent_of mode xs) y)
+      go : (k : ℕ) × (k < (run o es).callers) × (Filled.task (seat_own o es k) ≡ Some (h, intent_of mode xs)) → OwnerAsked o es h mode xs
+      go (k, low, y) = at k low (let c = (run_shape o es).2 in omega arith) y (intent_of_task o es w (seat_own o es k) h (intent_of mode xs) y)
 
   module _ (h : Handle) (mode : Mode) (xs : List Line) (a : OwnerAsked o es h mode xs) where
     abbrev pub begun : Moment

@@ -5,7 +5,7 @@ use Rattle.std.specs.Option.{is_some}
 use Rattle.kc_machine_history.specs.kc_machine.Machine.{World, Opening, seat_of, run}
 use Rattle.kc_machine_history.specs.kc_machine.Schedules.{IsSchedule}
 use Rattle.kc_machine_history.specs.kc_machine_traces.Claims.{stands_for}
-use Rattle.kc_machine_history.specs.kc_machine_traces.Histories.{History, Placed, inserted, at_place, cell_of, IsLegalHistory, footprint_of}
+use Rattle.kc_machine_history.specs.kc_machine_traces.Histories.{History, Placed, inserted, at_place, seen_as_cell, IsLegalHistory, footprint_of}
 use Rattle.kc_machine_history.specs.kc_machine_traces.Traces.{trace, first_store, IsHonest, swap_line}
 use Rattle.kc_machine_history.specs.kc_machine_invariants.Stands.{At}
 use Rattle.kc_machine_history.proofs.Decisions.{history_moves}
@@ -15,7 +15,7 @@ use Rattle.kc_machine_history.proofs.Insertions.{at_new}
 use Rattle.kc_machine_history.proofs.Legality.{legal_inserted}
 use Rattle.kc_machine_history.proofs.Places.{rises, new_place, below}
 use Rattle.kc_machine_history.specs.Decisions.{Decision}
-use Rattle.kc_machine_history.specs.Insertions.{put_by, NoneReadsAbove, IsBelowPlace}
+use Rattle.kc_machine_history.specs.Insertions.{put_by_entry, NoneReadsAbove, IsBelowPlace}
 use Rattle.kc_machine_history.specs.Later.{NoneTouchesAbove, DecidesSoon}
 use Rattle.kc_machine_history.proofs.Bounds.{asked}
 use Rattle.kc_machine_history.proofs.Known.{line_within}
@@ -49,7 +49,7 @@ module _ (o : Opening) (es : List Event) (w : IsSchedule o es) (k p : ℕ) (mode
   untouched : NoneTouchesAbove p (trace o es).history x.seen.loc.0
   untouched = (known o es w).later k p mode xs d x c y
 
-  pub installed_ends : ends_at o es x.seen.loc.0 ≡ cell_of x.seen
+  pub installed_ends : ends_at o es x.seen.loc.0 ≡ seen_as_cell x.seen
   installed_ends =
       let s = stands_installed o es w k p mode xs d x c y in
       let n = d.handle.descriptor in
@@ -57,9 +57,9 @@ module _ (o : Opening) (es : List Event) (w : IsSchedule o es) (k p : ℕ) (mode
       let e = (target o es k d.handle mode xs d.turn d.within d.pass).line s.0 x s.1 in
       sym (words_resolve o es w x.seen.loc.0 l) ∙ ap (stands_for v) s.2
       ∙ ap (λ (z : Status). record { version = resolved_version (v.first n s.0) z.phase; value = resolved_value (v.first n s.0) (v.second n s.0).after z.phase }) d.active
-      ∙ ap (λ (z : Line). cell_of z.seen) e
+      ∙ ap (λ (z : Line). seen_as_cell z.seen) e
 
-  pub installed_stands : stands_at o es p x.seen.loc.0 ≡ cell_of x.seen
+  pub installed_stands : stands_at o es p x.seen.loc.0 ≡ seen_as_cell x.seen
   installed_stands = at_new (first_store o) (trace o es).history p x.seen.loc.0 (λ z a b. (untouched z a b).1) (new_place o es k p d.place) ∙ installed_ends
 
 -- ---- one decision
@@ -73,7 +73,7 @@ module _ (o : Opening) where
     d = record { within = u.seat; handle = u.handle; turn = At (Decide Succeeded); pass = u.pass; place = u.place; active = u.was }
 
     -- each line of its pass was installed, or checked
-    line_finds : (i : ℕ) (v : Line) → slice_get u.lines i ≡ Some v → Contains u.lines v → i < MOST → (b : Bool) → is_installed x.mode v ≡ b → stands_at o es x.place v.seen.loc.0 ≡ cell_of v.seen
+    line_finds : (i : ℕ) (v : Line) → slice_get u.lines i ≡ Some v → Contains u.lines v → i < MOST → (b : Bool) → is_installed x.mode v ≡ b → stands_at o es x.place v.seen.loc.0 ≡ seen_as_cell v.seen
     line_finds i y g c l true b = installed_stands o es w (seat_of e) x.place x.mode u.lines d y c b
     line_finds i y g c l false b = (stood o es w).lines hon (seat_of e) x.place x.mode u.lines (Decide Succeeded) d refl i y g b l
 
@@ -82,12 +82,12 @@ module _ (o : Opening) where
         let z = line_that_reads u.lines r (subst (λ f. Reads f r) u.footprint c) in
         let a = got u.lines z.0 z.1 in
         let n = most_lines o es w (seat_of e) u.handle x.mode u.lines (At (Decide Succeeded)) u.seat u.pass in
-        subst (λ (t : Seen). stands_at o es x.place t.loc.0 ≡ cell_of t) z.2 (line_finds a.0 z.0 a.2 z.1 (let q = a.1 in omega arith) (is_installed x.mode z.0) refl)
+        subst (λ (t : Seen). stands_at o es x.place t.loc.0 ≡ seen_as_cell t) z.2 (line_finds a.0 z.0 a.2 z.1 (let q = a.1 in omega arith) (is_installed x.mode z.0) refl)
 
     unread : NoneReadsAbove x h
-    unread y c b r a = go (put_by x r.loc.0) refl
+    unread y c b r a = go (put_by_entry x r.loc.0) refl
       where
-        go : (q : Option Put) → put_by x r.loc.0 ≡ q → put_by x r.loc.0 ≡ None
+        go : (q : Option Put) → put_by_entry x r.loc.0 ≡ q → put_by_entry x r.loc.0 ≡ None
         go None q = q
         go (Some p) q =
             let v = line_that_puts u.lines r.loc.0 (sym (ap (λ (g : Footprint). is_some (put_at g.puts.items r.loc.0)) u.footprint) ∙ ap is_some q) in
@@ -109,8 +109,8 @@ module _ (o : Opening) where
     swap_finds : Finds x.entry.footprint (at_place (first_store o) before x.place)
     swap_finds r c = sole (subst (λ f. Reads f r) (ap (λ (z : Placed). z.entry.footprint) d.is) c)
       where
-        sole : Reads (footprint_of (swap_line d.seen d.after ∷ [])) r → stands_at o es x.place r.loc.0 ≡ cell_of r
-        sole (zero, l, q) = subst (λ (t : Seen). stands_at o es x.place t.loc.0 ≡ cell_of t) q (swap_at o es e (known o es w).later x d d.seen.loc.0 ∙ swap_found o es e w x d)
+        sole : Reads (footprint_of (swap_line d.seen d.after ∷ [])) r → stands_at o es x.place r.loc.0 ≡ seen_as_cell r
+        sole (zero, l, q) = subst (λ (t : Seen). stands_at o es x.place t.loc.0 ≡ seen_as_cell t) q (swap_at o es e (known o es w).later x d d.seen.loc.0 ∙ swap_found o es e w x d)
         sole (suc i, l, q) = absurd (omega arith)
 
     swap_legal : IsLegalHistory (first_store o) before → IsLegalHistory (first_store o) (inserted x before)

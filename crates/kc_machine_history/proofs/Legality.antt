@@ -3,9 +3,9 @@ use Rattle.std.proofs.Common.{arith, ◌≡◌, ◌<◌, ◌∙◌, refl, sym, s
 use Rattle.std.specs.Prelude.{nat_lt}
 use Rattle.std.proofs.lemmas.Bool.{ltb-true, ltb-false}
 use Rattle.kc_machine_traces.proofs.ByPlace.{in_order, at_places, legal_in_order, legal_at_places}
-use Rattle.kc_machine_traces.specs.Histories.{History, Placed, inserted, at_place, cell_of, installs, FindsInstalled, IsLegalHistory, IsLegalWhereInstalled, RisesByPlace}
+use Rattle.kc_machine_traces.specs.Histories.{History, Placed, inserted, at_place, seen_as_cell, installs, FindsInstalled, IsLegalHistory, IsLegalWhereInstalled, RisesByPlace}
 use Rattle.kc_machine_history.proofs.Insertions.{inserted_contains, rises_inserted, at_lower, at_else}
-use Rattle.kc_machine_history.specs.Insertions.{put_by, IsNewPlace, NoneReadsAbove, NoneInstallsAbove, EachFindsInstalled}
+use Rattle.kc_machine_history.specs.Insertions.{put_by_entry, IsNewPlace, NoneReadsAbove, NoneInstallsAbove, EachFindsInstalled}
 use Rattle.kc_model.specs.Footprint.{Reads}
 use Rattle.kc_model.specs.Store.{Store, Finds}
 use Rattle.kc_model.specs.declared.footprint.Seen.{Seen}
@@ -19,13 +19,13 @@ installed_at_places s h r g = at_places FindsInstalled s h r g
 -- each entry finds those reads that `asks` names
 module _ (asks : Placed → Seen → Type 0) where
   abbrev FindsAsked : Placed → Store → Type 0
-  FindsAsked x s = (r : Seen) → Reads x.entry.footprint r → asks x r → s r.loc.0 ≡ cell_of r
+  FindsAsked x s = (r : Seen) → Reads x.entry.footprint r → asks x r → s r.loc.0 ≡ seen_as_cell r
 
   abbrev EachFinds : Store → History → Type 0
   EachFinds s h = (y : Placed) → Contains h y → FindsAsked y (at_place s h y.place)
 
   abbrev NoneAsksAbove : Placed → History → Type 0
-  NoneAsksAbove x h = (y : Placed) → Contains h y → x.place < y.place → (r : Seen) → Reads y.entry.footprint r → asks y r → put_by x r.loc.0 ≡ None
+  NoneAsksAbove x h = (y : Placed) → Contains h y → x.place < y.place → (r : Seen) → Reads y.entry.footprint r → asks y r → put_by_entry x r.loc.0 ≡ None
 
   finds_inserted : (s : Store) (x : Placed) (h : History) → EachFinds s h → FindsAsked x (at_place s h x.place) → NoneAsksAbove x h → EachFinds s (inserted x h)
   finds_inserted s x h f p n y c = inserted_contains x h y (λ z. FindsAsked z (at_place s (inserted x h) z.place))

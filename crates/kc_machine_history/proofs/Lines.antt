@@ -12,12 +12,12 @@ use Rattle.kc_machine_history.specs.kc_machine_invariants.Stands.{Over, Turn}
 use Rattle.kc_machine_history.proofs.Filters.{found}
 use Rattle.kc_machine_history.proofs.Footprints.{later_above, rest_rises}
 use Rattle.kc_machine_history.proofs.Growing.{line_that_puts}
-use Rattle.kc_machine_history.specs.Places.{pass_of}
+use Rattle.kc_machine_history.specs.Places.{seat_pass}
 use Rattle.kc_machine_history.proofs.kc_machine_invariants.Started.{started_made}
 use Rattle.kc_machine_history.specs.kc_machine_invariants.Started.{listed, line_of_words}
 use Rattle.kc_machine_history.proofs.Before.{target}
 use Rattle.kc_machine_history.specs.kc_machine_invariants.Made.{IsWellMadeIntent, line_location}
-use Rattle.kc_machine_history.specs.kc_machine_steps.Lines.{has_put, value_after, joined, first_of, second_of, succeeds, next_version, resolved_version, resolved_value}
+use Rattle.kc_machine_history.specs.kc_machine_steps.Lines.{has_put, value_after, line_of_halves, first_of, second_of, succeeds, next_version, resolved_version, resolved_value}
 use Rattle.kc_model.specs.declared.footprint.Line.{Line}
 use Rattle.kc_machine_history.specs.kc_machine_steps.declared.task.Event.{Event}
 use Rattle.kc_machine_history.proofs.kc_machine_traces.Entries.{lists_again}
@@ -65,7 +65,7 @@ put_of_its_line (y ∷ xs) (suc i) x r e = go y.put (put_of_its_line xs i x (res
 
 -- ---- lines of words
 
-pub first_again : (f : First) (s : Second) → first_of (joined f s) ≡ f
+pub first_again : (f : First) (s : Second) → first_of (line_of_halves f s) ≡ f
 first_again f s = go f.put
   where
     go : (b : Bool) → first_of (record { seen = record { loc = record { 0 = s.loc }; version = f.version; value = f.before }; put = if b then Some s.after else None }) ≡ record { put = b; version = f.version; before = f.before }
@@ -80,7 +80,7 @@ pub unresolved : (f : First) (after : ℕ) (p : Phase) → succeeds p ≡ false 
 unresolved f after p e = ap (λ b. record { version = if b then (if f.put then next_version f.version else f.version) else f.version; value = if b then (if f.put then after else f.before) else f.before }) e
 
 -- the value after is of use to a put alone
-pub after_again : (f : First) (s : Second) (p : Phase) → cell_by f (second_of (joined f s)).after p ≡ cell_by f s.after p
+pub after_again : (f : First) (s : Second) (p : Phase) → cell_by f (second_of (line_of_halves f s)).after p ≡ cell_by f s.after p
 after_again f s p = go f.put
   where
     go : (b : Bool) → cell_by (record { put = b; version = f.version; before = f.before }) (value_after (if b then Some s.after else None) f.before) p ≡ cell_by (record { put = b; version = f.version; before = f.before }) s.after p
@@ -88,7 +88,7 @@ after_again f s p = go f.put
     go false = refl
 
 -- a put that succeeded leaves what its line stands for then
-pub put_lands : (f : First) (s : Second) → (f.put ≡ true → f.version < 2147483647) → cell_after (put_of_line (joined f s)) (record { version = f.version; value = f.before }) ≡ cell_by f s.after Succeeded
+pub put_lands : (f : First) (s : Second) → (f.put ≡ true → f.version < 2147483647) → cell_after (put_of_line (line_of_halves f s)) (record { version = f.version; value = f.before }) ≡ cell_by f s.after Succeeded
 put_lands f s = go f.put
   where
     go : (b : Bool) → (b ≡ true → f.version < 2147483647) → cell_after (put_of_line (record { seen = record { loc = record { 0 = s.loc }; version = f.version; value = f.before }; put = if b then Some s.after else None })) (record { version = f.version; value = f.before })
@@ -96,12 +96,12 @@ put_lands f s = go f.put
     go true l = ap (λ z. record { version = if z then f.version + 1 else f.version; value = s.after }) (sym (lt-ltb f.version 2147483647 (l refl)))
     go false l = refl
 
-pub still_puts : (f : First) (s : Second) → f.put ≡ true → has_put (joined f s).put ≡ true
+pub still_puts : (f : First) (s : Second) → f.put ≡ true → has_put (line_of_halves f s).put ≡ true
 still_puts f s e = ap (λ b. has_put (if b then Some s.after else None)) e
 
 -- ---- the lines of a pass are well made
 
-pub made_lines : (o : Opening) (es : List Event) → IsSchedule o es → (j : ℕ) (h : Handle) (mode : Mode) (xs : List Line) (t : Turn) → j < o.callers → pass_of o es j ≡ Over h mode xs t → IsWellMadeIntent o.locations (record { mode = mode; lines = record { items = xs } })
+pub made_lines : (o : Opening) (es : List Event) → IsSchedule o es → (j : ℕ) (h : Handle) (mode : Mode) (xs : List Line) (t : Turn) → j < o.callers → seat_pass o es j ≡ Over h mode xs t → IsWellMadeIntent o.locations (record { mode = mode; lines = record { items = xs } })
 made_lines o es w j h mode xs t l q =
     let a = target o es j h mode xs t l q in
     let f = line_of_words (run o es).world h.descriptor in

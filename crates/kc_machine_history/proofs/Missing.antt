@@ -9,12 +9,12 @@ use Rattle.kc_model.specs.declared.word.Word.TheVariants.{Plain}
 use Rattle.kc_machine_history.specs.kc_machine.Machine.{Opening, run}
 use Rattle.kc_machine_history.specs.kc_machine.Schedules.{IsSchedule}
 use Rattle.kc_machine_history.specs.kc_machine_traces.Claims.{stands_for}
-use Rattle.kc_machine_history.specs.kc_machine_traces.Histories.{History, IsKnown, Grows, cell_of}
+use Rattle.kc_machine_history.specs.kc_machine_traces.Histories.{History, IsKnown, Grows, seen_as_cell}
 use Rattle.kc_machine_history.specs.kc_machine_traces.Traces.{IsHonest, first_store, trace}
 use Rattle.kc_machine_history.proofs.Growth.{version_is, end_known, one_value}
 use Rattle.kc_machine_history.proofs.Knew.{knew_swapped}
 use Rattle.kc_machine_history.proofs.Successes.{kept}
-use Rattle.kc_machine_history.specs.Causes.{IsPast}
+use Rattle.kc_machine_history.specs.Causes.{IsOutdated}
 use Rattle.kc_machine_history.specs.Honest.{ends_at}
 use Rattle.kc_machine_history.proofs.Untouched.{grow}
 use Rattle.kc_machine_history.proofs.Resolving.{words_resolve}
@@ -55,13 +55,13 @@ module _ (o : Opening) (es : List Event) (w : IsSchedule o es) (hon : IsHonest o
     abbrev here : Seen
     here = record { loc = r.loc; version = v; value = y }
 
-    ends : ends_at o es r.loc.0 ≡ cell_of here
+    ends : ends_at o es r.loc.0 ≡ seen_as_cell here
     ends = sym (words_resolve o es w r.loc.0 ((kept o k l es w).made (task.Swap r value) asks).0) ∙ ap (stands_for (run o es).world) word
 
-    pub unfit_swap_past : ((v == r.version) && (y == r.value)) ≡ false → IsPast o es r
+    pub unfit_swap_past : ((v == r.version) && (y == r.value)) ≡ false → IsOutdated o es r
     unfit_swap_past u = go (cases_lt r.version (ends_at o es r.loc.0).version)
       where
-        go : (r.version < (ends_at o es r.loc.0).version) ⊎ ((ends_at o es r.loc.0).version ≤ r.version) → IsPast o es r
+        go : (r.version < (ends_at o es r.loc.0).version) ⊎ ((ends_at o es r.loc.0).version ≤ r.version) → IsOutdated o es r
         go (inl z) = z
         go (inr z) =
             let e = ap (λ (x : Cell). x.version) ends in

@@ -38,11 +38,11 @@ use Rattle.kc_machine_traces.specs.kc_machine.declared.hang.HangStep.TheVariants
 use Rattle.kc_machine_traces.specs.kc_machine.Works.{Work}
 use Rattle.kc_machine_traces.specs.kc_machine.Works as work
 use Rattle.kc_machine_traces.specs.kc_machine.Machine.{World, State, found_at, event_of, seat_of}
-use Rattle.kc_machine_traces.specs.kc_machine.Seats.{access_of, work_access, answer_of, answer_by, after, is_idle, begun, begun_idle, working, hanging, halted, halted_by, ended}
+use Rattle.kc_machine_traces.specs.kc_machine.Seats.{access_of, work_access, seat_answered, answer_by, seat_after, is_idle, begun, begun_idle, working, hanging, halted, halted_by, seat_halted}
 use Rattle.kc_machine_traces.specs.kc_machine.declared.seat.Seat.{Seat}
 use Rattle.kc_machine_traces.specs.Traces.{is_placed, is_placed_in}
 use Rattle.kc_machine_traces.specs.kc_machine_invariants.Holds.{Holds}
-use Rattle.kc_machine_traces.specs.kc_machine_invariants.Stands.{NoOwn, Passing, NoPass, Over, Turn, At, Stand, stand, works, resting, commits, owns, aids, hangs, Waits}
+use Rattle.kc_machine_traces.specs.kc_machine_invariants.Stands.{NoOwn, Passing, NoPass, Over, Turn, At, Stand, stand, works, resting, stand_commits, owns, stand_aids, stand_hangs, Waits}
 use Rattle.kc_machine_traces.specs.kc_machine_invariants.Owners.{is_filling}
 use Rattle.kc_machine_traces.proofs.Answers.{moved, seat_cases}
 
@@ -65,7 +65,7 @@ abbrev pub work_pass : Work → Passing
 work_pass (work.Commit c) = stage_pass c.intent c.copy c.stage
 work_pass _ = NoPass
 
-aid_is : (t : Stand) (r : Reference) (c : Aided) (a : AidStep) → t.pass ≡ NoPass → (aids t r c a).pass ≡ aid_pass r c a
+aid_is : (t : Stand) (r : Reference) (c : Aided) (a : AidStep) → t.pass ≡ NoPass → (stand_aids t r c a).pass ≡ aid_pass r c a
 aid_is t r c aid.Hold e = e
 aid_is t r c aid.Status e = e
 aid_is t r c (aid.First p) e = e
@@ -93,12 +93,12 @@ own_is t i c h (own.Drop p) e = e
 pub pass_is : (s : Seat) → (stand s).pass ≡ work_pass s.work
 pass_is s = go s.work
   where
-    stages : (b : Bool) (i : Intent) (c : Aided) (x : Stage) → (commits (record (resting s) { halted = b }) i c x).pass ≡ stage_pass i c x
+    stages : (b : Bool) (i : Intent) (c : Aided) (x : Stage) → (stand_commits (record (resting s) { halted = b }) i c x).pass ≡ stage_pass i c x
     stages b i c (stage.Scan d worn) = refl
     stages b i c (stage.Take d g) = refl
     stages b i c (stage.Own h step) = own_is (record (resting s) { halted = b }) i c h step refl
 
-    waits : (reads : List Seen) (step : HangStep) → (hangs (resting s) reads step).pass ≡ NoPass
+    waits : (reads : List Seen) (step : HangStep) → (stand_hangs (resting s) reads step).pass ≡ NoPass
     waits reads (hang.Set j) = refl
     waits reads (hang.Look j step) = refl
     waits reads (hang.Clear j n) = refl
@@ -169,18 +169,18 @@ HoldsLife (Over h m xs u) t = Holds t h.descriptor h.generation × (is_filling t
 pub pass_holds : (s : Seat) → HoldsLife (stand s).pass (stand s)
 pass_holds s = go s.work
   where
-    aiding : (t : Stand) (h : Handle) (i : Intent) (j : ℕ) (r : Reference) (c : Aided) (a : AidStep) → t.pass ≡ NoPass → HoldsLife (aids (record t { own = Waits h i j }) r c a).pass (aids (record t { own = Waits h i j }) r c a)
-    aiding t h i j r c aid.Hold e = subst (λ p. HoldsLife p (aids (record t { own = Waits h i j }) r c aid.Hold)) (sym e) tt
-    aiding t h i j r c aid.Status e = subst (λ p. HoldsLife p (aids (record t { own = Waits h i j }) r c aid.Status)) (sym e) tt
-    aiding t h i j r c (aid.First p) e = subst (λ q. HoldsLife q (aids (record t { own = Waits h i j }) r c (aid.First p))) (sym e) tt
-    aiding t h i j r c (aid.Second p f) e = subst (λ q. HoldsLife q (aids (record t { own = Waits h i j }) r c (aid.Second p f))) (sym e) tt
-    aiding t h i j r c (aid.Release p x) e = subst (λ q. HoldsLife q (aids (record t { own = Waits h i j }) r c (aid.Release p x))) (sym e) tt
-    aiding t h i j r c aid.Owner e = subst (λ p. HoldsLife p (aids (record t { own = Waits h i j }) r c aid.Owner)) (sym e) tt
-    aiding t h i j r c aid.LoadFirst e = subst (λ p. HoldsLife p (aids (record t { own = Waits h i j }) r c aid.LoadFirst)) (sym e) tt
-    aiding t h i j r c (aid.LoadSecond f) e = subst (λ p. HoldsLife p (aids (record t { own = Waits h i j }) r c (aid.LoadSecond f))) (sym e) tt
+    aiding : (t : Stand) (h : Handle) (i : Intent) (j : ℕ) (r : Reference) (c : Aided) (a : AidStep) → t.pass ≡ NoPass → HoldsLife (stand_aids (record t { own = Waits h i j }) r c a).pass (stand_aids (record t { own = Waits h i j }) r c a)
+    aiding t h i j r c aid.Hold e = subst (λ p. HoldsLife p (stand_aids (record t { own = Waits h i j }) r c aid.Hold)) (sym e) tt
+    aiding t h i j r c aid.Status e = subst (λ p. HoldsLife p (stand_aids (record t { own = Waits h i j }) r c aid.Status)) (sym e) tt
+    aiding t h i j r c (aid.First p) e = subst (λ q. HoldsLife q (stand_aids (record t { own = Waits h i j }) r c (aid.First p))) (sym e) tt
+    aiding t h i j r c (aid.Second p f) e = subst (λ q. HoldsLife q (stand_aids (record t { own = Waits h i j }) r c (aid.Second p f))) (sym e) tt
+    aiding t h i j r c (aid.Release p x) e = subst (λ q. HoldsLife q (stand_aids (record t { own = Waits h i j }) r c (aid.Release p x))) (sym e) tt
+    aiding t h i j r c aid.Owner e = subst (λ p. HoldsLife p (stand_aids (record t { own = Waits h i j }) r c aid.Owner)) (sym e) tt
+    aiding t h i j r c aid.LoadFirst e = subst (λ p. HoldsLife p (stand_aids (record t { own = Waits h i j }) r c aid.LoadFirst)) (sym e) tt
+    aiding t h i j r c (aid.LoadSecond f) e = subst (λ p. HoldsLife p (stand_aids (record t { own = Waits h i j }) r c (aid.LoadSecond f))) (sym e) tt
     aiding t h i j r c (aid.Pass p) e = (inr (inr (inl refl)), refl)
-    aiding t h i j r c (aid.Leave o) e = subst (λ p. HoldsLife p (aids (record t { own = Waits h i j }) r c (aid.Leave o))) (sym e) tt
-    aiding t h i j r c (aid.Drop stray o) e = subst (λ p. HoldsLife p (aids (record t { own = Waits h i j }) r c (aid.Drop stray o))) (sym e) tt
+    aiding t h i j r c (aid.Leave o) e = subst (λ p. HoldsLife p (stand_aids (record t { own = Waits h i j }) r c (aid.Leave o))) (sym e) tt
+    aiding t h i j r c (aid.Drop stray o) e = subst (λ p. HoldsLife p (stand_aids (record t { own = Waits h i j }) r c (aid.Drop stray o))) (sym e) tt
 
     owning : (b : Bool) (i : Intent) (c : Aided) (h : Handle) (step : OwnStep) → HoldsLife (owns (record (resting s) { halted = b }) i c h step).pass (owns (record (resting s) { halted = b }) i c h step)
     owning b i c h own.FillOwner = tt
@@ -194,12 +194,12 @@ pass_holds s = go s.work
     owning b i c h (own.Signal owed) = tt
     owning b i c h (own.Drop p) = tt
 
-    stages : (c : Commit) (x : Stage) → HoldsLife (commits (record (resting s) { halted = c.halted }) c.intent c.copy x).pass (commits (record (resting s) { halted = c.halted }) c.intent c.copy x)
+    stages : (c : Commit) (x : Stage) → HoldsLife (stand_commits (record (resting s) { halted = c.halted }) c.intent c.copy x).pass (stand_commits (record (resting s) { halted = c.halted }) c.intent c.copy x)
     stages c (stage.Scan d worn) = tt
     stages c (stage.Take d g) = tt
     stages c (stage.Own h step) = owning c.halted c.intent c.copy h step
 
-    waits : (reads : List Seen) (step : HangStep) → HoldsLife (hangs (resting s) reads step).pass (hangs (resting s) reads step)
+    waits : (reads : List Seen) (step : HangStep) → HoldsLife (stand_hangs (resting s) reads step).pass (stand_hangs (resting s) reads step)
     waits reads (hang.Set j) = tt
     waits reads (hang.Look j step) = tt
     waits reads (hang.Clear j n) = tt
@@ -275,7 +275,7 @@ abbrev pub IsFresh : Stand → Type 0
 IsFresh t = (t.pass ≡ NoPass) × (t.own ≡ NoOwn)
 
 module _ (s : Seat) where
-  pub next_is : (c : Commit) (n : Next) → work_pass (after (record s { work = work.Commit (gone_on c n) }) (onward_by n)).work ≡ next_pass c n
+  pub next_is : (c : Commit) (n : Next) → work_pass (seat_after (record s { work = work.Commit (gone_on c n) }) (onward_by n)).work ≡ next_pass c n
   next_is c (next.Goes y) = refl
   next_is c (next.Takes y) = refl
   next_is c (next.Tells t) = refl
@@ -308,7 +308,7 @@ module _ (s : Seat) where
   stage_keeps c (stage.Own h (own.Signal owed)) f = tt
   stage_keeps c (stage.Own h (own.Drop p)) f = tt
 
-  answer_keeps : (f : Found) → Keeps (work_pass s.work) (work_pass (answer_of s f).work)
+  answer_keeps : (f : Found) → Keeps (work_pass s.work) (work_pass (seat_answered s f).work)
   answer_keeps f = go s.work refl
     where
       go : (x : Work) → s.work ≡ x → Keeps (work_pass x) (work_pass (answer_by s f x).work)
@@ -364,7 +364,7 @@ module _ (s : Seat) where
   stage_quits c (stage.Own h (own.Signal owed)) w = tt
   stage_quits c (stage.Own h (own.Drop p)) w = tt
 
-  answer_quits : (w : World) → Quits (work_pass s.work) (work_pass (answer_of s (found_at w (access_of s))).work)
+  answer_quits : (w : World) → Quits (work_pass s.work) (work_pass (seat_answered s (found_at w (access_of s))).work)
   answer_quits w = go s.work refl
     where
       go : (x : Work) → s.work ≡ x → Quits (work_pass x) (work_pass (answer_by s (found_at w (work_access s.caller s.calls x)) x).work)
@@ -375,8 +375,8 @@ module _ (s : Seat) where
       go (work.Leave l) e = tt
       go (work.Swap l) e = tt
 
-  pub step_quits : (w : World) → Quits (stand s).pass (stand (answer_of s (found_at w (access_of s)))).pass
-  step_quits w = subst (λ p. Quits p (stand (answer_of s (found_at w (access_of s)))).pass) (sym (pass_is s)) (subst (Quits (work_pass s.work)) (sym (pass_is (answer_of s (found_at w (access_of s))))) (answer_quits w))
+  pub step_quits : (w : World) → Quits (stand s).pass (stand (seat_answered s (found_at w (access_of s)))).pass
+  step_quits w = subst (λ p. Quits p (stand (seat_answered s (found_at w (access_of s)))).pass) (sym (pass_is s)) (subst (Quits (work_pass s.work)) (sym (pass_is (seat_answered s (found_at w (access_of s))))) (answer_quits w))
 
   -- ---- a halt, a beginning
 
@@ -415,7 +415,7 @@ module _ (s : Seat) where
   halt_keeps : Keeps (work_pass s.work) (work_pass (halted s).work)
   halt_keeps = go s.work refl
     where
-      stages : (c : Commit) (x : Stage) → Keeps (stage_pass c.intent c.copy x) (work_pass (if unowned x then ended s else record s { work = work.Commit (halted_at c x) }).work)
+      stages : (c : Commit) (x : Stage) → Keeps (stage_pass c.intent c.copy x) (work_pass (if unowned x then seat_halted s else record s { work = work.Commit (halted_at c x) }).work)
       stages c (stage.Scan d worn) = tt
       stages c (stage.Take d g) = tt
       stages c (stage.Own h step) = own_halts c.intent c.copy h step
@@ -465,5 +465,5 @@ event_keeps m e = seat_cases (λ r. Keeps (stand (m.seats (seat_of e))).pass (st
 
     moves : (e : Event) → Keeps (stand (m.seats (seat_of e))).pass (stand (moved m e)).pass
     moves (Begin k t) = begun_keeps (m.seats k) t
-    moves (Step k) = let f = found_at m.world (access_of (m.seats k)) in seen (m.seats k) (answer_of (m.seats k) f) (answer_keeps (m.seats k) f)
+    moves (Step k) = let f = found_at m.world (access_of (m.seats k)) in seen (m.seats k) (seat_answered (m.seats k) f) (answer_keeps (m.seats k) f)
     moves (Halt k) = seen (m.seats k) (halted (m.seats k)) (halt_keeps (m.seats k))

@@ -15,7 +15,7 @@ use Rattle.kc_machine_history.proofs.Deciding.{Entrance, history_cases}
 use Rattle.kc_machine_history.proofs.Insertions.{inserted_contains, rises_inserted}
 use Rattle.kc_machine_history.proofs.Passes.{Keeps, event_keeps, IsFresh, begun_fresh}
 use Rattle.kc_machine_history.specs.Insertions.{IsNewPlace, IsBelowPlace}
-use Rattle.kc_machine_history.specs.Places.{pass_of, place_of, began}
+use Rattle.kc_machine_history.specs.Places.{seat_pass, seat_place, began}
 use Rattle.kc_model.specs.declared.footprint.Line.{Line}
 use Rattle.kc_machine_traces.specs.kc_machine_steps.declared.task.Event.{Event}
 use Rattle.kc_machine_traces.specs.kc_machine_steps.declared.task.Event.TheVariants.{Begin, Step, Halt}
@@ -262,38 +262,38 @@ module _ (o : Opening) (es : List Event) where
         let t = length-take-le (began o es k) es r in
         omega arith
 
-    pub has_place : is_some (place_of o es k) ≡ is_placed (pass_of o es k)
+    pub has_place : is_some (seat_place o es k) ≡ is_placed (seat_pass o es k)
     has_place = (placing o es).seats k ∙ ap (λ (m : State). is_placed (stand (m.seats k)).pass) (trace_runs o es)
 
-    pub within : (p : ℕ) → place_of o es k ≡ Some p → (began o es k ≤ p) × (p < length es)
+    pub within : (p : ℕ) → seat_place o es k ≡ Some p → (began o es k ≤ p) × (p < length es)
     within p q = let b = (placing o es).below k p q in let n = trace_counts o es in ((placing o es).begun k p q, omega arith)
 
-    pub new_place : (p : ℕ) → place_of o es k ≡ Some p → IsNewPlace p (trace o es).history
+    pub new_place : (p : ℕ) → seat_place o es k ≡ Some p → IsNewPlace p (trace o es).history
     new_place = (placing o es).entries k
 
-  pub places_apart : (j k p : ℕ) → place_of o es j ≡ Some p → place_of o es k ≡ Some p → j ≡ k
+  pub places_apart : (j k p : ℕ) → seat_place o es j ≡ Some p → seat_place o es k ≡ Some p → j ≡ k
   places_apart = (placing o es).apart
 
   -- ---- one event
 
   module _ (e : Event) (k : ℕ) where
-    pub place_was : (p : ℕ) → place_of o (es ++ e ∷ []) k ≡ Some p → (place_of o es k ≡ Some p) ⊎ ((k ≡ seat_of e) × (p ≡ length es) × (place_of o es k ≡ None))
+    pub place_was : (p : ℕ) → seat_place o (es ++ e ∷ []) k ≡ Some p → (seat_place o es k ≡ Some p) ⊎ ((k ≡ seat_of e) × (p ≡ length es) × (seat_place o es k ≡ None))
     place_was p q = go (stood (trace o es) e (placing o es) k p (sym (ap (λ (t : Trace). (t.shadows k).place) (trace-append o es (e ∷ []))) ∙ q)).was
       where
-        go : Was (trace o es) e (placing o es) k p → (place_of o es k ≡ Some p) ⊎ ((k ≡ seat_of e) × (p ≡ length es) × (place_of o es k ≡ None))
+        go : Was (trace o es) e (placing o es) k p → (seat_place o es k ≡ Some p) ⊎ ((k ≡ seat_of e) × (p ≡ length es) × (seat_place o es k ≡ None))
         go (inl z) = inl z
         go (inr z) = inr (z.0, z.1 ∙ trace_counts o es, z.2)
 
-    pub pass_stays : (h : Handle) (m : Mode) (xs : List Line) (t : Turn) → pass_of o es k ≡ Over h m xs t → is_placed (pass_of o es k) ≡ true → is_placed (pass_of o (es ++ e ∷ []) k) ≡ true → (u : Turn) × (pass_of o (es ++ e ∷ []) k ≡ Over h m xs u)
+    pub pass_stays : (h : Handle) (m : Mode) (xs : List Line) (t : Turn) → seat_pass o es k ≡ Over h m xs t → is_placed (seat_pass o es k) ≡ true → is_placed (seat_pass o (es ++ e ∷ []) k) ≡ true → (u : Turn) × (seat_pass o (es ++ e ∷ []) k ≡ Over h m xs u)
     pass_stays h m xs t q a b = go (k == seat_of e) refl
       where
-        after : pass_of o (es ++ e ∷ []) k ≡ (stand ((event_of (run o es) e).seats k)).pass
+        after : seat_pass o (es ++ e ∷ []) k ≡ (stand ((event_of (run o es) e).seats k)).pass
         after = ap (λ (m : State). (stand (m.seats k)).pass) (run-append o es (e ∷ []))
 
-        go : (z : Bool) → (k == seat_of e) ≡ z → (u : Turn) × (pass_of o (es ++ e ∷ []) k ≡ Over h m xs u)
+        go : (z : Bool) → (k == seat_of e) ≡ z → (u : Turn) × (seat_pass o (es ++ e ∷ []) k ≡ Over h m xs u)
         go false z = (t, after ∙ ap (λ s. (stand s).pass) (event_else (run o es) e k (λ w. eqb-false k (seat_of e) z (sym w))) ∙ q)
         go true z =
             let w = eqb-true k (seat_of e) z in
-            let f : Keeps (pass_of o es k) (stand ((event_of (run o es) e).seats k)).pass = subst (λ i. Keeps (pass_of o es i) (stand ((event_of (run o es) e).seats i)).pass) (sym w) (event_keeps (run o es) e) in
+            let f : Keeps (seat_pass o es k) (stand ((event_of (run o es) e).seats k)).pass = subst (λ i. Keeps (seat_pass o es i) (stand ((event_of (run o es) e).seats i)).pass) (sym w) (event_keeps (run o es) e) in
             let r = subst (λ p. Keeps p (stand ((event_of (run o es) e).seats k)).pass) q f (sym (ap is_placed q) ∙ a) (sym (ap is_placed after) ∙ b) in
             (r.0, after ∙ r.1)

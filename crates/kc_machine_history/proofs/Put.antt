@@ -8,14 +8,14 @@ use borrow.Author.Tests.{eq-eqb, eqb-true}
 use Rattle.kc_machine_history.specs.kc_machine.Machine.{Opening}
 use Rattle.kc_machine_history.specs.kc_machine.Schedules.{IsSchedule}
 use Rattle.kc_machine_history.specs.kc_machine_traces.Claims.{HasPut, FailuresHaveACause, SwapFailuresHaveACause}
-use Rattle.kc_machine_history.specs.kc_machine_traces.Histories.{History, Placed, ending, put_of_line, footprint_of, IsKnown, IsLegalHistory, inserted}
+use Rattle.kc_machine_history.specs.kc_machine_traces.Histories.{History, Placed, ending_store, put_of_line, footprint_of, IsKnown, IsLegalHistory, inserted}
 use Rattle.kc_machine_history.specs.kc_machine_traces.Traces.{trace, first_store, IsHonest, swap_line}
 use Rattle.kc_machine_history.proofs.Decisions.{history_moves}
 use Rattle.kc_machine_history.proofs.Filters.{found}
 use Rattle.kc_machine_history.proofs.Growth.{version_is}
 use Rattle.kc_machine_history.proofs.Insertions.{inserted_contains}
 use Rattle.kc_machine_history.proofs.Knew.{knew, knew_swapped}
-use Rattle.kc_machine_history.specs.Insertions.{put_by}
+use Rattle.kc_machine_history.specs.Insertions.{put_by_entry}
 use Rattle.kc_machine_history.proofs.Causes.{failures}
 use Rattle.kc_machine_history.proofs.Legal.{legal}
 use Rattle.kc_machine_history.specs.Causes.{PastRead}
@@ -68,14 +68,14 @@ put_there (q ∷ ps) l p e = go (put_there ps l p) (q.loc.0 == l) refl e
     go rest true z e = let s : q ≡ p = cc in (subst (Contains (q ∷ ps)) s (Contains-first q ps), ap (λ (x : Put). x.loc.0) (sym s) ∙ eqb-true q.loc.0 l z)
     go rest false z e = let r = rest e in (Contains-later q ps p r.0, r.1)
 
-past_put : (s : Store) (h : History) (r : Seen) → IsLegalHistory s h → PutsAreRead h → (s r.loc.0).version ≤ r.version → r.version < (ending s h r.loc.0).version → HasPut h r
+past_put : (s : Store) (h : History) (r : Seen) → IsLegalHistory s h → PutsAreRead h → (s r.loc.0).version ≤ r.version → r.version < (ending_store s h r.loc.0).version → HasPut h r
 past_put s [] r legal reads low high = absurd (omega arith)
-past_put s (x ∷ h) r legal reads low high = go (λ l. past_put (after x.entry.footprint s) h r legal.1 (λ y c. reads y (Contains-later x h y c)) l high) (put_by x r.loc.0) refl
+past_put s (x ∷ h) r legal reads low high = go (λ l. past_put (after x.entry.footprint s) h r legal.1 (λ y c. reads y (Contains-later x h y c)) l high) (put_by_entry x r.loc.0) refl
   where
     later : HasPut h r → HasPut (x ∷ h) r
     later (y, p, c, q, a, b) = (y, p, Contains-later x h y c, q, a, b)
 
-    go : (((after x.entry.footprint s) r.loc.0).version ≤ r.version → HasPut h r) → (o : Option Put) → put_by x r.loc.0 ≡ o → HasPut (x ∷ h) r
+    go : (((after x.entry.footprint s) r.loc.0).version ≤ r.version → HasPut h r) → (o : Option Put) → put_by_entry x r.loc.0 ≡ o → HasPut (x ∷ h) r
     go rest None e = later (rest (let z = ap (λ o. (cell_after o (s r.loc.0)).version) e in omega arith))
     go rest (Some p) e = at (cases_lt (s r.loc.0).version r.version)
       where
@@ -107,21 +107,21 @@ put_raises : (o : Option Put) (c : Cell) → is_some o ≡ true → (cell_after 
 put_raises None c e = absurd (cc)
 put_raises (Some p) c e = refl
 
-put_passed : (s : Store) (h : History) (r : Seen) → IsLegalHistory s h → PutsAreRead h → HasPut h r → r.version < (ending s h r.loc.0).version
+put_passed : (s : Store) (h : History) (r : Seen) → IsLegalHistory s h → PutsAreRead h → HasPut h r → r.version < (ending_store s h r.loc.0).version
 put_passed s [] r legal reads (y, p, c, q, a, b) = absurd (omega (arith, c.1))
 put_passed s (x ∷ h) r legal reads (y, p, (suc i, l, e), q, a, b) = put_passed (after x.entry.footprint s) h r legal.1 (λ z c. reads z (Contains-later x h z c)) (y, p, (i, omega arith, e), q, a, b)
 put_passed s (x ∷ h) r legal reads (y, p, (zero, l, e), q, a, b) =
     let z = reads x (Contains-first x h) p puts in
     let stood : (s p.loc.0).version ≡ p.version = ap (λ l. (s l).version) (sym z.2) ∙ ap (λ (c : Cell). c.version) (legal.0 z.0 z.1) ∙ z.3 in
-    let raised = put_raises (put_by x p.loc.0) (s p.loc.0) (put_found x.entry.footprint.puts.items p puts) in
+    let raised = put_raises (put_by_entry x p.loc.0) (s p.loc.0) (put_found x.entry.footprint.puts.items p puts) in
     let rises = version_is (after x.entry.footprint s) h p.loc.0 in
-    let past : p.version < (ending s (x ∷ h) p.loc.0).version = omega arith in
-    subst (λ (l : Loc). r.version < (ending s (x ∷ h) l.0).version) a (omega (arith, past, b))
+    let past : p.version < (ending_store s (x ∷ h) p.loc.0).version = omega arith in
+    subst (λ (l : Loc). r.version < (ending_store s (x ∷ h) l.0).version) a (omega (arith, past, b))
   where
     puts : Contains x.entry.footprint.puts.items p
     puts = subst (λ (w : Placed). Contains w.entry.footprint.puts.items p) (sym e) q
 
-pub puts_past : (o : Opening) (es : List Event) → IsSchedule o es → IsHonest o es → (r : Seen) → HasPut (trace o es).history r → r.version < (ending (first_store o) (trace o es).history r.loc.0).version
+pub puts_past : (o : Opening) (es : List Event) → IsSchedule o es → IsHonest o es → (r : Seen) → HasPut (trace o es).history r → r.version < (ending_store (first_store o) (trace o es).history r.loc.0).version
 puts_past o es w honest r p = put_passed (first_store o) (trace o es).history r (legal o es w honest) (puts_read o es) p
 
 -- ---- failures
@@ -130,7 +130,7 @@ puts_past o es w honest r p = put_passed (first_store o) (trace o es).history r 
 known_above : (s : Store) (h : History) (r : Seen) → IsKnown s h r → (s r.loc.0).version ≤ r.version
 known_above s h r k =
     let a = version_is s (take k.0 h) r.loc.0 in
-    let b : (ending s (take k.0 h) r.loc.0).version ≡ r.version = ap (λ (c : Cell). c.version) k.1 in
+    let b : (ending_store s (take k.0 h) r.loc.0).version ≡ r.version = ap (λ (c : Cell). c.version) k.1 in
     omega arith
 
 pub causes : (o : Opening) (es : List Event) → IsSchedule o es → FailuresHaveACause o es

@@ -27,7 +27,7 @@ use Rattle.kc_machine_history.specs.kc_machine.Machine.{World, State, Opening, f
 use Rattle.kc_machine_history.specs.kc_machine.Schedules.{IsSchedule}
 use Rattle.kc_machine_history.specs.kc_machine.Words.{status_is}
 use Rattle.kc_machine_history.specs.kc_machine_traces.Claims.{stands_for}
-use Rattle.kc_machine_history.specs.kc_machine_traces.Histories.{cell_of}
+use Rattle.kc_machine_history.specs.kc_machine_traces.Histories.{seen_as_cell}
 use Rattle.kc_machine_history.specs.kc_machine_traces.Traces.{IsHonest, is_placed, is_placed_at}
 use Rattle.kc_machine_history.proofs.kc_machine_invariants.PoolLaws.{holds_kept}
 use Rattle.kc_machine_history.proofs.kc_machine_invariants.Tests.{status_active, status_other}
@@ -35,7 +35,7 @@ use Rattle.kc_machine_history.specs.kc_machine_invariants.Holds.{Proper, own_hol
 use Rattle.kc_machine_history.specs.kc_machine_invariants.Stands.{Over, At, stand}
 use Rattle.kc_machine_history.proofs.Places.{within, has_place}
 use Rattle.kc_machine_history.specs.Later.{DecidesSoon}
-use Rattle.kc_machine_history.specs.Places.{pass_of, place_of}
+use Rattle.kc_machine_history.specs.Places.{seat_pass, seat_place}
 use Rattle.kc_machine_history.proofs.Bounds.{at_most_end, asked, line_low, line_stands, versions_on}
 use Rattle.kc_machine_history.proofs.Came.{StoodAt, Came, kept, stepped, first, begun, stopped, came}
 use Rattle.kc_machine_history.proofs.Known.{line_within}
@@ -55,7 +55,7 @@ use Rattle.kc_machine_history.proofs.Untouched.{known, DropFits, pass_drops}
 use Rattle.kc_machine_history.proofs.Resolving.{words_resolve}
 use Rattle.kc_machine_history.specs.Settled.{Settled, checked_by, MetStands, StepMet}
 use Rattle.kc_machine_history.proofs.kc_machine_invariants.FitSeats.{fit_always}
-use Rattle.kc_machine_history.specs.kc_machine_steps.Lines.{after_line, is_installed, next_line, word_of, resolved_version}
+use Rattle.kc_machine_history.specs.kc_machine_steps.Lines.{after_line, is_installed, next_line, reference_word, resolved_version}
 use Rattle.kc_machine_history.specs.kc_machine_steps.Looks.{reference_of}
 use Rattle.kc_machine_history.specs.kc_machine_steps.Passes.{status, fits, from_check, check_or_decide, from_install, install_or_check, release_or_finish, pass_access, check_access, pass_next, check_found, crossed_or_first, agrees_or_fails, check_first_found, decided_as}
 use Rattle.kc_machine_history.specs.kc_machine_steps.declared.task.Event.{Event}
@@ -154,7 +154,7 @@ module _ (o : Opening) (es : List Event) (e : Event) (w : IsSchedule o es) (w' :
 
   module _ (k p : ℕ) (mode : Mode) (xs : List Line) (h : Handle) (lk : k < o.callers) (low : p ≤ length es) where
     abbrev pub LinesStand : List Event → PassStep → Type 0
-    LinesStand us q = (i : ℕ) (x : Line) → slice_get xs i ≡ Some x → is_installed mode x ≡ false → i < checked_by q → stands_at o us p x.seen.loc.0 ≡ cell_of x.seen
+    LinesStand us q = (i : ℕ) (x : Line) → slice_get xs i ≡ Some x → is_installed mode x ≡ false → i < checked_by q → stands_at o us p x.seen.loc.0 ≡ seen_as_cell x.seen
 
     abbrev pub Good : PassStep → Type 0
     Good q = (IsHonest o es → LinesStand es' q) × StepStood o es' p xs q
@@ -195,23 +195,23 @@ module _ (o : Opening) (es : List Event) (e : Event) (w : IsSchedule o es) (w' :
       d = was.at.soon
 
       -- what it has checked stands as it did
-      still : IsHonest o es → (i : ℕ) (x : Line) → slice_get xs i ≡ Some x → is_installed mode x ≡ false → i < checked_by t → stands_at o es' p x.seen.loc.0 ≡ cell_of x.seen
+      still : IsHonest o es → (i : ℕ) (x : Line) → slice_get xs i ≡ Some x → is_installed mode x ≡ false → i < checked_by t → stands_at o es' p x.seen.loc.0 ≡ seen_as_cell x.seen
       still hon i x g f b = (settled_stays o es (e ∷ []) p x.seen.loc.0 low ((known o es w).checked k p mode xs t d was.at.turn i x g f b)).1 ∙ was.lines hon i x g f b
 
       fewer : (q : PassStep) → checked_by q ≤ checked_by t → IsHonest o es → LinesStand es' q
       fewer q l hon i x g f b = still hon i x g f (omega arith)
 
       -- lines below j are checked, and line j now
-      past : (j : ℕ) (y : Line) → slice_get xs j ≡ Some y → j ≤ checked_by t → (IsHonest o es → stands_at o es' p y.seen.loc.0 ≡ cell_of y.seen) → IsHonest o es → (q : PassStep) → ((i : ℕ) (x : Line) → j < i → i < checked_by q → slice_get xs i ≡ Some x → is_installed mode x ≡ false → ⊥) → LinesStand es' q
+      past : (j : ℕ) (y : Line) → slice_get xs j ≡ Some y → j ≤ checked_by t → (IsHonest o es → stands_at o es' p y.seen.loc.0 ≡ seen_as_cell y.seen) → IsHonest o es → (q : PassStep) → ((i : ℕ) (x : Line) → j < i → i < checked_by q → slice_get xs i ≡ Some x → is_installed mode x ≡ false → ⊥) → LinesStand es' q
       past j y g l new hon q none i x a f b = go (cases_lt i j) (cases_lt j i)
         where
-          go : (i < j) ⊎ (j ≤ i) → (j < i) ⊎ (i ≤ j) → stands_at o es' p x.seen.loc.0 ≡ cell_of x.seen
+          go : (i < j) ⊎ (j ≤ i) → (j < i) ⊎ (i ≤ j) → stands_at o es' p x.seen.loc.0 ≡ seen_as_cell x.seen
           go (inl c) z = still hon i x a f (omega arith)
           go (inr c) (inl z) = absurd (none i x z b a f)
           go (inr c) (inr z) =
               let q : i ≡ j = omega arith in
               let r = same_line i a (subst (λ t. slice_get xs t ≡ Some y) (sym q) g) in
-              subst (λ (v : Line). stands_at o es' p v.seen.loc.0 ≡ cell_of v.seen) (sym r) (new hon)
+              subst (λ (v : Line). stands_at o es' p v.seen.loc.0 ≡ seen_as_cell v.seen) (sym r) (new hon)
 
       -- behind line j no line is left before the next check
       skips : (j i : ℕ) (x : Line) → j < i → i < checked_by (from_check mode xs (after_line j)) → slice_get xs i ≡ Some x → is_installed mode x ≡ false → ⊥
@@ -223,7 +223,7 @@ module _ (o : Opening) (es : List Event) (e : Event) (w : IsSchedule o es) (w' :
       callers : k < m.callers
       callers = let c = (run_shape o es).2 in omega arith
 
-      over : pass_of o es k ≡ Over d.handle mode xs (At t)
+      over : seat_pass o es k ≡ Over d.handle mode xs (At t)
       over = d.pass ∙ ap (Over d.handle mode xs) was.at.turn
 
       published : (r : Reference) → met_by_pass (Over d.handle mode xs (At t)) ≡ Some r → r.handle.generation ≤ (m.world.status r.handle.descriptor).generation
@@ -239,10 +239,10 @@ module _ (o : Opening) (es : List Event) (e : Event) (w : IsSchedule o es) (w' :
     by_check j was q = at (slice_get xs j) refl
       where
         -- it fits what stands there, so it stood
-        stands : (x : Line) → slice_get xs j ≡ Some x → (v y : ℕ) → m.world.word x.seen.loc.0 ≡ Plain v y → fits v y x ≡ true → IsHonest o es → stands_at o es' p x.seen.loc.0 ≡ cell_of x.seen
+        stands : (x : Line) → slice_get xs j ≡ Some x → (v y : ℕ) → m.world.word x.seen.loc.0 ≡ Plain v y → fits v y x ≡ true → IsHonest o es → stands_at o es' p x.seen.loc.0 ≡ seen_as_cell x.seen
         stands x g v y r f hon =
             let d = was.at.soon in
-            let s = settled_by o es w x.seen.loc.0 (λ h i z act. let u : Plain v y ≡ word_of h i = sym r ∙ z in absurd (cc)) p in
+            let s = settled_by o es w x.seen.loc.0 (λ h i z act. let u : Plain v y ≡ reference_word h i = sym r ∙ z in absurd (cc)) p in
             let a : v ≡ (ends_at o es x.seen.loc.0).version = ap (λ (c : Cell). c.version) (ap (stands_for m.world) (sym r) ∙ words_resolve o es w x.seen.loc.0 (loc_within (Check j) was j x g)) in
             let b = eqb-true v x.seen.version (both (v == x.seen.version) (y == x.seen.value) f) in
             let lower = line_low o es w k p mode xs d hon j x g in
@@ -314,7 +314,7 @@ module _ (o : Opening) (es : List Event) (e : Event) (w : IsSchedule o es) (w' :
         v = resolved_version (m.world.first r.handle.descriptor r.line) f
 
         -- it agrees with what lies between, so it stood
-        stands : (x : Line) → slice_get xs j ≡ Some x → (v == x.seen.version) ≡ true → IsHonest o es → stands_at o es' p x.seen.loc.0 ≡ cell_of x.seen
+        stands : (x : Line) → slice_get xs j ≡ Some x → (v == x.seen.version) ≡ true → IsHonest o es → stands_at o es' p x.seen.loc.0 ≡ seen_as_cell x.seen
         stands x g a hon =
             let b = eqb-true v x.seen.version a in
             let lower = line_low o es w k p mode xs was.at.soon hon j x g in
@@ -336,7 +336,7 @@ module _ (o : Opening) (es : List Event) (e : Event) (w : IsSchedule o es) (w' :
         all : IsHonest o es → LinesStand es' (from_check mode xs (after_line j))
         all hon i x a f b = go (cases_lt j i)
           where
-            go : (j < i) ⊎ (i ≤ j) → stands_at o es' p x.seen.loc.0 ≡ cell_of x.seen
+            go : (j < i) ⊎ (i ≤ j) → stands_at o es' p x.seen.loc.0 ≡ seen_as_cell x.seen
             go (inl c) = absurd (skips (CheckDrop j r stray checked.Agrees) was j i x c b a f)
             go (inr c) = still (CheckDrop j r stray checked.Agrees) was hon i x a f (omega arith)
     by_drop j r stray (checked.Decide f) was q = by (Decide f) (λ z. absurd (fits (ap checked.Decide (success f z)))) q
@@ -411,7 +411,7 @@ module _ (o : Opening) where
       met = λ k p mode xs q d turn. (good k p mode xs q d turn (low k p d.place)).1;
     }
       where
-        low : (k p : ℕ) → place_of o (es ++ e ∷ []) k ≡ Some p → p ≤ length es
+        low : (k p : ℕ) → seat_place o (es ++ e ∷ []) k ≡ Some p → p ≤ length es
         low k p z = let a = (within o (es ++ e ∷ []) k p z).1 in let b = length-append es (e ∷ []) in omega arith
 
   pub stood : (es : List Event) → IsSchedule o es → Stood o es

@@ -35,7 +35,7 @@ use Rattle.kc_machine_traces.proofs.Joins.{run-append, trace-append, every, made
 use Rattle.kc_machine_traces.proofs.Onward.{SeatLeft, ended_left}
 use Rattle.kc_machine_traces.proofs.Others.{run_shape, event_in, words_kept, history_kept}
 use Rattle.kc_machine_traces.proofs.Outcomes.{LeftAfter, one_more, begins_left}
-use Rattle.kc_machine_traces.specs.Entries.{by}
+use Rattle.kc_machine_traces.specs.Entries.{placed_by}
 use Rattle.kc_machine_traces.specs.Moments.{BeginsNothing}
 use Rattle.kc_machine_traces.specs.Outcomes.{IsEntryOf, GainsTheCall, GainsAsTold}
 use Rattle.kc_machine_traces.specs.Parts.{IsNoStep}
@@ -173,7 +173,7 @@ module _ (o : Opening) (es : List Event) (k : ℕ) (l : k < o.callers) where
 -- ---- what is kept of a seat's task
 
 pub record Kept (o : Opening) (k : ℕ) (l : k < o.callers) (es : List Event) : Type 0 where
-  pub left : (t : Task) → ((trace o es).shadows k).task ≡ Some t → LeftAfter o k l t (by k ((trace o es).shadows k).begun.history) es
+  pub left : (t : Task) → ((trace o es).shadows k).task ≡ Some t → LeftAfter o k l t (placed_by k ((trace o es).shadows k).begun.history) es
   pub made : (t : Task) → ((trace o es).shadows k).task ≡ Some t → IsWellMadeTask o.locations t
   -- an entry of its caller was there when it began, or stands behind
   pub behind : (x : Placed) → Contains (trace o es).history x → x.entry.caller ≡ k → Contains ((trace o es).shadows k).begun.history x ⊎ (began o es k ≤ x.place)
@@ -184,18 +184,18 @@ module _ (o : Opening) (k : ℕ) (l : k < o.callers) (es : List Event) (e : Even
 
   stays : (h : Kept o k l es) → Stays o es e k l → Kept o k l e'
   stays h y = record {
-    left = λ t q. subst (λ (b : Moment). LeftAfter o k l t (by k b.history) e') (sym y.begun) (left y.quiet t (sym y.task ∙ q));
+    left = λ t q. subst (λ (b : Moment). LeftAfter o k l t (placed_by k b.history) e') (sym y.begun) (left y.quiet t (sym y.task ∙ q));
     made = λ t q. h.made t (sym y.task ∙ q);
     behind = λ x c i. subst (λ (b : Moment). Contains b.history x ⊎ (b.clock ≤ x.place)) (sym y.begun) (behind x c i);
   }
     where
-      left : BeginsNothing k (e ∷ []) ⊎ (All IsNoStep (e ∷ []) × ((run o e').seats k ≡ (run o es).seats k)) → (t : Task) → ((trace o es).shadows k).task ≡ Some t → LeftAfter o k l t (by k ((trace o es).shadows k).begun.history) e'
+      left : BeginsNothing k (e ∷ []) ⊎ (All IsNoStep (e ∷ []) × ((run o e').seats k ≡ (run o es).seats k)) → (t : Task) → ((trace o es).shadows k).task ≡ Some t → LeftAfter o k l t (placed_by k ((trace o es).shadows k).begun.history) e'
       left (inl b) t q = one_more o k l t _ es e b (h.left t q)
       left (inr b) t q =
-          let a = by k ((trace o es).shadows k).begun.history in
-          subst (λ w. SeatLeft w k t ((run o e').seats k) a (by k (trace o e').history)) (sym (words_kept o es (e ∷ []) b.0))
-          (subst (λ r. SeatLeft (run o es).world k t r a (by k (trace o e').history)) (sym b.1)
-          (subst (λ g. SeatLeft (run o es).world k t ((run o es).seats k) a (by k g)) (sym (history_kept o es (e ∷ []) b.0)) (h.left t q)))
+          let a = placed_by k ((trace o es).shadows k).begun.history in
+          subst (λ w. SeatLeft w k t ((run o e').seats k) a (placed_by k (trace o e').history)) (sym (words_kept o es (e ∷ []) b.0))
+          (subst (λ r. SeatLeft (run o es).world k t r a (placed_by k (trace o e').history)) (sym b.1)
+          (subst (λ g. SeatLeft (run o es).world k t ((run o es).seats k) a (placed_by k g)) (sym (history_kept o es (e ∷ []) b.0)) (h.left t q)))
 
       behind : (x : Placed) → Contains (trace o e').history x → x.entry.caller ≡ k → Contains ((trace o es).shadows k).begun.history x ⊎ (began o es k ≤ x.place)
       behind = history_moves o es e (λ g. (x : Placed) → Contains g x → x.entry.caller ≡ k → Contains ((trace o es).shadows k).begun.history x ⊎ (began o es k ≤ x.place)) h.behind
@@ -207,9 +207,9 @@ module _ (o : Opening) (k : ℕ) (l : k < o.callers) (es : List Event) (e : Even
   starts : All (BeginsWellMade o.locations) (e ∷ []) → Starts o es e k l → Kept o k l e'
   starts w y = record {
     left = λ t q. let z : y.asked ≡ t = same (sym y.task ∙ q) in
-        subst (λ (b : Moment). LeftAfter o k l t (by k b.history) e') (sym y.begun)
-        (subst (λ d. LeftAfter o k l t (by k (trace o es).history) (es ++ d ∷ [])) (sym y.event)
-        (subst (λ u. LeftAfter o k l u (by k (trace o es).history) (es ++ Begin k y.asked ∷ [])) z (begins_left o k l es y.asked y.idle y.busy)));
+        subst (λ (b : Moment). LeftAfter o k l t (placed_by k b.history) e') (sym y.begun)
+        (subst (λ d. LeftAfter o k l t (placed_by k (trace o es).history) (es ++ d ∷ [])) (sym y.event)
+        (subst (λ u. LeftAfter o k l u (placed_by k (trace o es).history) (es ++ Begin k y.asked ∷ [])) z (begins_left o k l es y.asked y.idle y.busy)));
     made = λ t q. subst (IsWellMadeTask o.locations) (same (sym y.task ∙ q)) (subst (BeginsWellMade o.locations) y.event (All-head (BeginsWellMade o.locations) e [] w));
     behind = λ x c i. inl (subst (λ (b : Moment). Contains b.history x) (sym y.begun) (subst (λ g. Contains g x) (history_kept o es (e ∷ []) (subst (λ d. All IsNoStep (d ∷ [])) (sym y.event) (All-cons IsNoStep (Begin k y.asked) [] tt (All-nil IsNoStep)))) c));
   }
@@ -280,18 +280,18 @@ module _ (o : Opening) (es : List Event) (w : IsSchedule o es) (k n : ℕ) (u : 
       go true q = refl
       go false q = let z : Some (told.Succeeded n) ≡ None = sym said ∙ ((answers_when_done o es k).busy q).0 in absurd (cc)
 
-  gained : GainsTheCall k n u (by k a) (by k h)
-  gained = subst (λ t. GainsAsTold k u t (by k a) (by k h)) said
-      (ended_left (run o es).world k u ((run o es).seats k) (by k a) (by k h) idle ((kept o k l es w).left u asked))
+  gained : GainsTheCall k n u (placed_by k a) (placed_by k h)
+  gained = subst (λ t. GainsAsTold k u t (placed_by k a) (placed_by k h)) said
+      (ended_left (run o es).world k u ((run o es).seats k) (placed_by k a) (placed_by k h) idle ((kept o k l es w).left u asked))
 
   abbrev x : Placed
   x = gained.entry
 
-  among : Contains (by k h) x
+  among : Contains (placed_by k h) x
   among = subst (λ g. Contains g x) (sym gained.after) (middle gained.front x gained.back)
 
   stands : Contains h x
-  stands = All-contains (Contains h) (by k h) x (All-filter (λ y. y.entry.caller == k) (Contains h) h (All-contains_itself h)) among
+  stands = All-contains (Contains h) (placed_by k h) x (All-filter (λ y. y.entry.caller == k) (Contains h) h (All-contains_itself h)) among
 
   caller : x.entry.caller ≡ k
   caller = entry_caller k n u x gained.is

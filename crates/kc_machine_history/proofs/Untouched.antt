@@ -34,7 +34,7 @@ use Rattle.kc_machine_history.proofs.Growing.{histories_grow}
 use Rattle.kc_machine_history.proofs.Passes.{aid_pass, own_pass, stage_pass, work_pass, pass_is}
 use Rattle.kc_machine_history.proofs.Places.{has_place, within, place_was}
 use Rattle.kc_machine_history.specs.Later.{DecidesSoon, NothingLaterTouches, NothingLaterTouchesAlong}
-use Rattle.kc_machine_history.specs.Places.{pass_of, place_of}
+use Rattle.kc_machine_history.specs.Places.{seat_pass, seat_place}
 use Rattle.kc_machine_history.proofs.Before.{was_soon, later_on}
 use Rattle.kc_machine_history.proofs.Checking.{Good, OldChecks, from_step, kept_step, halted_step, entered_step}
 use Rattle.kc_machine_history.proofs.Ways.{placed_judges, Way, stays, steps, enters, halts, Onto, event_onto}
@@ -117,7 +117,7 @@ pub record Known (o : Opening) (es : List Event) : Type 0 where
 
 module _ (o : Opening) (es : List Event) (e : Event) (w : IsSchedule o es) (w' : IsSchedule o (es ++ e ∷ [])) (old : Known o es) where
   module _ (k p : ℕ) (mode : Mode) (xs : List Line) (q : PassStep) (d : DecidesSoon o (es ++ e ∷ []) k p mode xs) (turn : d.turn ≡ At q) where
-    over : pass_of o (es ++ e ∷ []) k ≡ Over d.handle mode xs (At q)
+    over : seat_pass o (es ++ e ∷ []) k ≡ Over d.handle mode xs (At q)
     over = d.pass ∙ ap (Over d.handle mode xs) turn
 
     placed : is_placed_at q ≡ true
@@ -127,13 +127,13 @@ module _ (o : Opening) (es : List Event) (e : Event) (w : IsSchedule o es) (w' :
     low = let a = (within o (es ++ e ∷ []) k p d.place).1 in let b = length-append es (e ∷ []) in omega arith
 
     -- what it knew where it stood
-    earlier : (t : PassStep) → pass_of o es k ≡ Over d.handle mode xs (At t) → is_placed_at t ≡ true → OldChecks o es e w w' k p mode xs d.handle d.within low t × StepMet o es p xs t
+    earlier : (t : PassStep) → seat_pass o es k ≡ Over d.handle mode xs (At t) → is_placed_at t ≡ true → OldChecks o es e w w' k p mode xs d.handle d.within low t × StepMet o es p xs t
     earlier t q z = go (place_was o es e k p d.place)
       where
-        there : is_some (place_of o es k) ≡ true
+        there : is_some (seat_place o es k) ≡ true
         there = has_place o es k ∙ ap is_placed q ∙ z
 
-        go : (place_of o es k ≡ Some p) ⊎ ((k ≡ seat_of e) × (p ≡ length es) × (place_of o es k ≡ None)) → OldChecks o es e w w' k p mode xs d.handle d.within low t × StepMet o es p xs t
+        go : (seat_place o es k ≡ Some p) ⊎ ((k ≡ seat_of e) × (p ≡ length es) × (seat_place o es k ≡ None)) → OldChecks o es e w w' k p mode xs d.handle d.within low t × StepMet o es p xs t
         go (inl y) =
             let b = was_soon o es e k p mode xs d (At t) q y in
             ((λ i x g f l. old.checked k p mode xs t b.0 b.2 i x g f l), old.met k p mode xs t b.0 b.2)
@@ -142,10 +142,10 @@ module _ (o : Opening) (es : List Event) (e : Event) (w : IsSchedule o es) (w' :
     abbrev Goal : Type 0
     Goal = Good o es e w w' k p mode xs d.handle d.within low q
 
-    unmoved : pass_of o es k ≡ Over d.handle mode xs (At q) → Goal
+    unmoved : seat_pass o es k ≡ Over d.handle mode xs (At q) → Goal
     unmoved y = let a = earlier q y placed in kept_step o es e w w' k p mode xs d.handle d.within low q y a.0 a.1
 
-    by_way : Way (run o es).world d.handle mode xs (pass_of o es k) q → Goal
+    by_way : Way (run o es).world d.handle mode xs (seat_pass o es k) q → Goal
     by_way (stays y) = unmoved y
     by_way (steps t y z) = from_step o es e w w' k p mode xs d.handle d.within low t y
         (λ j r stray c u. subst DropFits (y ∙ ap (λ v. Over d.handle mode xs (At v)) u) (pass_drops ((run o es).seats k) (fit_always o es k)))
@@ -153,7 +153,7 @@ module _ (o : Opening) (es : List Event) (e : Event) (w : IsSchedule o es) (w' :
     by_way (enters i y) = subst (Good o es e w w' k p mode xs d.handle d.within low) (sym y) (entered_step o es e w w' k p mode xs d.handle d.within low i (ap is_placed_at (sym y) ∙ placed))
     by_way (halts j r stray c t y z u l out) = subst (Good o es e w w' k p mode xs d.handle d.within low) (sym u) (halted_step o es e w w' k p mode xs d.handle d.within low j r stray c t (earlier t y z).0 (subst (λ v. checked_by v ≤ checked_by t) u l))
 
-    seat_on : pass_of o (es ++ e ∷ []) k ≡ (stand ((event_of (run o es) e).seats k)).pass
+    seat_on : seat_pass o (es ++ e ∷ []) k ≡ (stand ((event_of (run o es) e).seats k)).pass
     seat_on = ap (λ (m : State). (stand (m.seats k)).pass) (run-append o es (e ∷ []))
 
     good : Goal
@@ -163,8 +163,8 @@ module _ (o : Opening) (es : List Event) (e : Event) (w : IsSchedule o es) (w' :
         go false z = unmoved (sym (seat_on ∙ ap (λ s. (stand s).pass) (event_else (run o es) e k (λ i. eqb-false k (seat_of e) z (sym i)))) ∙ over)
         go true z =
             let i = eqb-true k (seat_of e) z in
-            let f : Onto (run o es).world (pass_of o es k) (stand ((event_of (run o es) e).seats k)).pass = subst (λ j. Onto (run o es).world (pass_of o es j) (stand ((event_of (run o es) e).seats j)).pass) (sym i) (event_onto (run o es) e) in
-            by_way (subst (Onto (run o es).world (pass_of o es k)) (sym seat_on ∙ over) f (placed_judges q placed))
+            let f : Onto (run o es).world (seat_pass o es k) (stand ((event_of (run o es) e).seats k)).pass = subst (λ j. Onto (run o es).world (seat_pass o es j) (stand ((event_of (run o es) e).seats j)).pass) (sym i) (event_onto (run o es) e) in
+            by_way (subst (Onto (run o es).world (seat_pass o es k)) (sym seat_on ∙ over) f (placed_judges q placed))
 
   known_on : Known o (es ++ e ∷ [])
   known_on = record {

@@ -37,7 +37,7 @@ use Rattle.kc_machine_history.specs.kc_machine_commits.Nexts.{Next}
 use Rattle.kc_machine_history.specs.kc_machine_commits.Nexts as next
 use Rattle.kc_machine_history.specs.kc_machine_commits.Commits.{after_scan, scan_next, take_next, fill_next, fill_or_start, wake_next, wake_or_signal, owed_next, after_own_pass, finished, onward_or_back, stage_next, copy_by, loaded}
 use Rattle.kc_machine_history.specs.kc_machine_commits.Halts.{unowned, halted_pass, halted_aid_pass, halted_own, halted_at}
-use Rattle.kc_machine_history.specs.kc_machine_steps.Aids.{hold_next, status_next, owner_or_first, first_next, second_next, load_next, owner_next, load_first_next, load_second_next, after_pass, leave_next, drop_or_release}
+use Rattle.kc_machine_history.specs.kc_machine_steps.Aids.{aid_hold_next, aid_status_next, owner_or_first, aid_first_next, aid_second_next, aid_load_next, owner_next, load_first_next, load_second_next, after_pass, leave_next, drop_or_release}
 use Rattle.kc_machine_history.specs.kc_machine_steps.Lines.{next_line, after_line}
 use Rattle.kc_machine_history.specs.kc_machine_steps.Looks.{look_after, look_tells, look_halted, halts_at_once}
 use Rattle.kc_machine_history.specs.kc_machine_steps.Passes.{pass_access, pass_next, from_install, release_or_finish}
@@ -47,7 +47,7 @@ use Rattle.kc_machine_history.specs.kc_machine.Hangs.{hang_after, hang_onward, l
 use Rattle.kc_machine_history.specs.kc_machine.Works.{Work}
 use Rattle.kc_machine_history.specs.kc_machine.Works as work
 use Rattle.kc_machine_history.specs.kc_machine.Machine.{World, State, found_at, event_of, seat_of}
-use Rattle.kc_machine_history.specs.kc_machine.Seats.{access_of, work_access, answer_of, answer_by, after, is_idle, begun, begun_idle, halted, halted_by, ended}
+use Rattle.kc_machine_history.specs.kc_machine.Seats.{access_of, work_access, seat_answered, answer_by, seat_after, is_idle, begun, begun_idle, halted, halted_by, seat_halted}
 use Rattle.kc_machine_history.specs.kc_machine.declared.seat.Seat.{Seat}
 use Rattle.kc_machine_history.specs.kc_machine_traces.Traces.{is_placed_at}
 use Rattle.kc_machine_history.specs.kc_machine_invariants.Stands.{Passing, NoPass, Over, At, Meets, Ends, Leaves, stand}
@@ -148,7 +148,7 @@ back_unjudged i c h true k o = refl
 back_unjudged i c h false k None = refl
 back_unjudged i c h false k (Some r) = refl
 
-hold_unjudged : (r : Reference) (c : Aided) (f : Found) → judges_in (aid_pass r c (hold_next r f)) ≡ false
+hold_unjudged : (r : Reference) (c : Aided) (f : Found) → judges_in (aid_pass r c (aid_hold_next r f)) ≡ false
 hold_unjudged r c (found.Control z) = go (z.generation == r.handle.generation)
   where
     go : (b : Bool) → judges_in (aid_pass r c (if b then aid.Status else aid.Drop true None)) ≡ false
@@ -156,7 +156,7 @@ hold_unjudged r c (found.Control z) = go (z.generation == r.handle.generation)
     go false = refl
 hold_unjudged r c f = refl
 
-status_unjudged : (r : Reference) (c : Aided) (f : Found) → judges_in (aid_pass r c (status_next f)) ≡ false
+status_unjudged : (r : Reference) (c : Aided) (f : Found) → judges_in (aid_pass r c (aid_status_next f)) ≡ false
 status_unjudged r c (found.Status z) = go z.phase
   where
     go : (p : Phase) → judges_in (aid_pass r c (owner_or_first p)) ≡ false
@@ -167,11 +167,11 @@ status_unjudged r c (found.Status z) = go z.phase
     go Halted = refl
 status_unjudged r c f = refl
 
-first_unjudged : (r : Reference) (c : Aided) (p : Phase) (f : Found) → judges_in (aid_pass r c (first_next p f)) ≡ false
+first_unjudged : (r : Reference) (c : Aided) (p : Phase) (f : Found) → judges_in (aid_pass r c (aid_first_next p f)) ≡ false
 first_unjudged r c p (found.First x) = refl
 first_unjudged r c p f = refl
 
-second_unjudged : (r : Reference) (c : Aided) (p : Phase) (x : First) (f : Found) → judges_in (aid_pass r c (second_next p x f)) ≡ false
+second_unjudged : (r : Reference) (c : Aided) (p : Phase) (x : First) (f : Found) → judges_in (aid_pass r c (aid_second_next p x f)) ≡ false
 second_unjudged r c p x (found.Second y) = refl
 second_unjudged r c p x f = refl
 
@@ -197,7 +197,7 @@ leave_unjudged r c m xs o f = refl
 -- ---- a step
 
 module _ (w : World) where
-  loads : (x : Passing) (r : Reference) (c : Aided) → Onto w x (aid_pass r c (load_next c))
+  loads : (x : Passing) (r : Reference) (c : Aided) → Onto w x (aid_pass r c (aid_load_next c))
   loads x r c = go (nat_lt (length c.lines.items) c.owner.lines)
     where
       go : (b : Bool) → Onto w x (aid_pass r c (if b then aid.LoadFirst else aid.Pass (from_install c.owner.mode c.lines.items 0)))
@@ -262,10 +262,10 @@ module _ (w : World) where
     take_none c d g f = refl
 
     aid_onto : (c : Commit) (h : Handle) (j : ℕ) (r : Reference) (a : AidStep) → Onto w (stage_pass c.intent c.copy (stage.Own h (own.Aid j r a))) (Nexts s c (stage.Own h (own.Aid j r a)) (F c (stage.Own h (own.Aid j r a))))
-    aid_onto c h j r aid.Hold = let g = F c (stage.Own h (own.Aid j r aid.Hold)) in unjudged w NoPass (aid_pass r c.copy (hold_next r g)) (hold_unjudged r c.copy g)
-    aid_onto c h j r aid.Status = let g = F c (stage.Own h (own.Aid j r aid.Status)) in unjudged w NoPass (aid_pass r c.copy (status_next g)) (status_unjudged r c.copy g)
-    aid_onto c h j r (aid.First p) = let g = F c (stage.Own h (own.Aid j r (aid.First p))) in unjudged w NoPass (aid_pass r c.copy (first_next p g)) (first_unjudged r c.copy p g)
-    aid_onto c h j r (aid.Second p x) = let g = F c (stage.Own h (own.Aid j r (aid.Second p x))) in unjudged w NoPass (aid_pass r c.copy (second_next p x g)) (second_unjudged r c.copy p x g)
+    aid_onto c h j r aid.Hold = let g = F c (stage.Own h (own.Aid j r aid.Hold)) in unjudged w NoPass (aid_pass r c.copy (aid_hold_next r g)) (hold_unjudged r c.copy g)
+    aid_onto c h j r aid.Status = let g = F c (stage.Own h (own.Aid j r aid.Status)) in unjudged w NoPass (aid_pass r c.copy (aid_status_next g)) (status_unjudged r c.copy g)
+    aid_onto c h j r (aid.First p) = let g = F c (stage.Own h (own.Aid j r (aid.First p))) in unjudged w NoPass (aid_pass r c.copy (aid_first_next p g)) (first_unjudged r c.copy p g)
+    aid_onto c h j r (aid.Second p x) = let g = F c (stage.Own h (own.Aid j r (aid.Second p x))) in unjudged w NoPass (aid_pass r c.copy (aid_second_next p x g)) (second_unjudged r c.copy p x g)
     aid_onto c h j r (aid.Release p x) = tt
     aid_onto c h j r aid.Owner = owners NoPass r (copy_by c.copy (stage.Own h (own.Aid j r aid.Owner)) (F c (stage.Own h (own.Aid j r aid.Owner)))) (F c (stage.Own h (own.Aid j r aid.Owner)))
     aid_onto c h j r aid.LoadFirst = let g = F c (stage.Own h (own.Aid j r aid.LoadFirst)) in unjudged w NoPass (aid_pass r c.copy (load_first_next g)) (load_first_unjudged r c.copy g)
@@ -291,13 +291,13 @@ module _ (w : World) where
     stage_onto c (stage.Take d g) = no_pass NoPass c (take_next s.descriptors d g (F c (stage.Take d g))) (take_none c d g (F c (stage.Take d g)))
     stage_onto c (stage.Own h step) = own_onto c h step
 
-    none_behind : (x : Work) → work_pass x ≡ NoPass → (n : Onward) → Onto w NoPass (work_pass (after (record s { work = x }) n).work)
+    none_behind : (x : Work) → work_pass x ≡ NoPass → (n : Onward) → Onto w NoPass (work_pass (seat_after (record s { work = x }) n).work)
     none_behind x e onward.Goes = subst (Onto w NoPass) (sym e) tt
     none_behind x e onward.Takes = subst (Onto w NoPass) (sym e) tt
     none_behind x e onward.Unblocks = subst (Onto w NoPass) (sym e) tt
     none_behind x e (onward.Tells t) = tt
 
-    answer_onto : Onto w (work_pass s.work) (work_pass (answer_of s (found_at w (access_of s))).work)
+    answer_onto : Onto w (work_pass s.work) (work_pass (seat_answered s (found_at w (access_of s))).work)
     answer_onto = go s.work refl
       where
         go : (x : Work) → s.work ≡ x → Onto w (work_pass x) (work_pass (answer_by s (found_at w (work_access s.caller s.calls x)) x).work)
@@ -355,16 +355,16 @@ module _ (w : World) where
     halt_onto : Onto w (work_pass s.work) (work_pass (halted s).work)
     halt_onto = go s.work refl
       where
-        stages : (c : Commit) (x : Stage) → Onto w (stage_pass c.intent c.copy x) (work_pass (if unowned x then ended s else record s { work = work.Commit (halted_at c x) }).work)
+        stages : (c : Commit) (x : Stage) → Onto w (stage_pass c.intent c.copy x) (work_pass (if unowned x then seat_halted s else record s { work = work.Commit (halted_at c x) }).work)
         stages c (stage.Scan d worn) = tt
         stages c (stage.Take d g) = tt
         stages c (stage.Own h step) = own_halts c.intent c.copy h step
 
-        look_or : (y : Work) (b : Bool) → work_pass y ≡ NoPass → Onto w NoPass (work_pass (if b then ended s else record s { work = y }).work)
+        look_or : (y : Work) (b : Bool) → work_pass y ≡ NoPass → Onto w NoPass (work_pass (if b then seat_halted s else record s { work = y }).work)
         look_or y true e = tt
         look_or y false e = subst (Onto w NoPass) (sym e) tt
 
-        swap_or : (b : Bool) → Onto w NoPass (work_pass s.work) → Onto w NoPass (work_pass (if b then ended s else s).work)
+        swap_or : (b : Bool) → Onto w NoPass (work_pass s.work) → Onto w NoPass (work_pass (if b then seat_halted s else s).work)
         swap_or true f = tt
         swap_or false f = f
 
@@ -393,5 +393,5 @@ event_onto m e = seat_cases (λ r. Onto m.world (stand (m.seats (seat_of e))).pa
 
     moves : (e : Event) → Onto m.world (stand (m.seats (seat_of e))).pass (stand (moved m e)).pass
     moves (Begin k t) = begun_onto m.world (m.seats k) t
-    moves (Step k) = seen (m.seats k) (answer_of (m.seats k) (found_at m.world (access_of (m.seats k)))) (answer_onto m.world (m.seats k))
+    moves (Step k) = seen (m.seats k) (seat_answered (m.seats k) (found_at m.world (access_of (m.seats k)))) (answer_onto m.world (m.seats k))
     moves (Halt k) = seen (m.seats k) (halted (m.seats k)) (halt_onto m.world (m.seats k))

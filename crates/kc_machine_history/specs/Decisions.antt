@@ -4,7 +4,7 @@ use Rattle.kc_machine_traces.specs.kc_machine.Machine.{Opening, run, seat_of}
 use Rattle.kc_machine_traces.specs.Histories.{Placed, inserted, footprint_of}
 use Rattle.kc_machine_traces.specs.Traces.{trace}
 use Rattle.kc_machine_traces.specs.kc_machine_invariants.Stands.{At, Over, Own, stand}
-use Rattle.kc_machine_history.specs.Places.{pass_of, place_of}
+use Rattle.kc_machine_history.specs.Places.{seat_pass, seat_place}
 use Rattle.kc_machine_traces.specs.kc_machine_invariants.Owners.{OwnsLife, is_filling}
 use Rattle.kc_machine_traces.specs.kc_machine_steps.Passes.{status}
 use Rattle.kc_model.specs.declared.footprint.Line.{Line}
@@ -15,8 +15,8 @@ use Rattle.kc_machine_traces.specs.Swaps.{SwapOf}
 use Rattle.kc_machine_traces.specs.kc_machine_words.declared.words.Handle.{Handle}
 use Rattle.kc_machine_traces.specs.kc_machine_words.declared.words.Phase.TheVariants.{Active, Succeeded}
 
-abbrev pub own_of : Opening → List Event → ℕ → Own
-own_of o es k = (stand ((run o es).seats k)).own
+abbrev pub seat_own : Opening → List Event → ℕ → Own
+seat_own o es k = (stand ((run o es).seats k)).own
 
 -- behind the schedule es the event e decides for success, and x is the entry
 pub record Decision (o : Opening) (es : List Event) (e : Event) (x : Placed) : Type 0 where
@@ -24,15 +24,15 @@ pub record Decision (o : Opening) (es : List Event) (e : Event) (x : Placed) : T
   pub seat : seat_of e < o.callers
   pub handle : Handle
   pub lines : List Line
-  pub pass : pass_of o es (seat_of e) ≡ Over handle x.mode lines (At (Decide Succeeded))
-  pub place : place_of o es (seat_of e) ≡ Some x.place
+  pub pass : seat_pass o es (seat_of e) ≡ Over handle x.mode lines (At (Decide Succeeded))
+  pub place : seat_place o es (seat_of e) ≡ Some x.place
   pub was : (run o es).world.status handle.descriptor ≡ status handle.generation Active
   pub now_is : (run o (es ++ e ∷ [])).world.status handle.descriptor ≡ status handle.generation Succeeded
   -- for its owner: the owner's call, mode and lines
   pub caller : x.entry.caller < o.callers
   pub owns : OwnsLife (run o es) x.entry.caller handle.descriptor handle.generation
-  pub started : is_filling (own_of o es x.entry.caller) ≡ false
-  pub intent : own_intent (own_of o es x.entry.caller) ≡ Some (record { mode = x.mode; lines = record { items = lines } })
+  pub started : is_filling (seat_own o es x.entry.caller) ≡ false
+  pub intent : own_intent (seat_own o es x.entry.caller) ≡ Some (record { mode = x.mode; lines = record { items = lines } })
   pub number : x.entry.number ≡ ((run o es).seats x.entry.caller).calls
   pub footprint : x.entry.footprint ≡ footprint_of lines
 

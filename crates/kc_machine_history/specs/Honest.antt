@@ -1,7 +1,7 @@
 -- What stands at a place, and what a pass knows of it.
 use Rattle.std.specs.Prelude.{◌≡◌, ◌≢◌, ◌<◌, ◌≤◌, ◌⊎◌, ℕ, List, Some, slice_get, Contains, true, false}
 use Rattle.kc_machine_history.specs.kc_machine.Machine.{Opening, run}
-use Rattle.kc_machine_history.specs.kc_machine_traces.Histories.{ending, at_place, cell_of}
+use Rattle.kc_machine_history.specs.kc_machine_traces.Histories.{ending_store, at_place, seen_as_cell}
 use Rattle.kc_machine_history.specs.kc_machine_traces.Traces.{trace, first_store}
 use Rattle.kc_machine_history.specs.kc_machine_invariants.Stands.{At}
 use Rattle.kc_machine_history.specs.Later.{DecidesSoon}
@@ -21,18 +21,18 @@ use Rattle.kc_model.specs.declared.word.Word.TheVariants.{Ref}
 
 -- what the history makes of a location, and what its entries with places below p make
 abbrev pub ends_at : Opening → List Event → ℕ → Cell
-ends_at o es l = ending (first_store o) (trace o es).history l
+ends_at o es l = ending_store (first_store o) (trace o es).history l
 
 abbrev pub stands_at : Opening → List Event → ℕ → ℕ → Cell
 stands_at o es p l = at_place (first_store o) (trace o es).history p l
 
 -- each line that a pass which may decide installs is what the history makes, and stands at its place
 abbrev pub InstalledLinesStand : Opening → List Event → Type 0
-InstalledLinesStand o es = (k p : ℕ) (m : Mode) (xs : List Line) → DecidesSoon o es k p m xs → (x : Line) → Contains xs x → is_installed m x ≡ true → (ends_at o es x.seen.loc.0 ≡ cell_of x.seen) × (stands_at o es p x.seen.loc.0 ≡ cell_of x.seen)
+InstalledLinesStand o es = (k p : ℕ) (m : Mode) (xs : List Line) → DecidesSoon o es k p m xs → (x : Line) → Contains xs x → is_installed m x ≡ true → (ends_at o es x.seen.loc.0 ≡ seen_as_cell x.seen) × (stands_at o es p x.seen.loc.0 ≡ seen_as_cell x.seen)
 
 -- each line that a pass has checked, as long as it may decide, stands at its place
 abbrev pub CheckedLinesStood : Opening → List Event → Type 0
-CheckedLinesStood o es = (k p : ℕ) (m : Mode) (xs : List Line) (q : PassStep) (d : DecidesSoon o es k p m xs) → d.turn ≡ At q → (i : ℕ) (x : Line) → slice_get xs i ≡ Some x → is_installed m x ≡ false → i < checked_by q → stands_at o es p x.seen.loc.0 ≡ cell_of x.seen
+CheckedLinesStood o es = (k p : ℕ) (m : Mode) (xs : List Line) (q : PassStep) (d : DecidesSoon o es k p m xs) → d.turn ≡ At q → (i : ℕ) (x : Line) → slice_get xs i ≡ Some x → is_installed m x ≡ false → i < checked_by q → stands_at o es p x.seen.loc.0 ≡ seen_as_cell x.seen
 
 -- a version is no lower than what stands at place p of location l, and no higher than what the history makes there
 abbrev pub LiesBetween : Opening → List Event → ℕ → ℕ → ℕ → Type 0

@@ -6,11 +6,11 @@ use Rattle.kc_machine_traces.specs.kc_machine_invariants.Stands.{Passing, stand}
 use Rattle.kc_machine_traces.specs.kc_machine_steps.declared.task.Event.{Event}
 
 -- of seat k
-abbrev pub pass_of : Opening → List Event → ℕ → Passing
-pass_of o es k = (stand ((run o es).seats k)).pass
+abbrev pub seat_pass : Opening → List Event → ℕ → Passing
+seat_pass o es k = (stand ((run o es).seats k)).pass
 
-abbrev pub place_of : Opening → List Event → ℕ → Option ℕ
-place_of o es k = ((trace o es).shadows k).place
+abbrev pub seat_place : Opening → List Event → ℕ → Option ℕ
+seat_place o es k = ((trace o es).shadows k).place
 
 -- the number of the event by which its task began
 abbrev pub began : Opening → List Event → ℕ → ℕ

@@ -14,11 +14,11 @@ ghost use Rattle.kc_machine_history.specs.kc_machine_words.declared.words.Phase.
 ghost use Rattle.kc_machine_traces.specs.Words.{PassesOver};
 ghost use Rattle.kc_machine_history.specs.kc_machine.Schedules.{IsSchedule};
 ghost use Rattle.kc_machine_history.specs.kc_machine_traces.Claims.{HistoriesGrow, WordsResolve, history_at};
-ghost use Rattle.kc_machine_history.specs.kc_machine_traces.Histories.{FindsInstalled, IsKnown, IsLegalWhereInstalled, Placed, at_place, cell_of, ending, inserted};
+ghost use Rattle.kc_machine_history.specs.kc_machine_traces.Histories.{FindsInstalled, IsKnown, IsLegalWhereInstalled, Placed, at_place, seen_as_cell, ending_store, inserted};
 ghost use Rattle.kc_machine_history.specs.kc_machine_traces.Traces.{IsHonest, first_store, trace};
 ghost use Rattle.kc_machine_history.specs.kc_machine_traces.Entries.{own_intent};
-ghost use Rattle.kc_machine_history.specs.Decisions.{Decision, own_of};
-ghost use Rattle.kc_machine_history.specs.Insertions.{put_by};
+ghost use Rattle.kc_machine_history.specs.Decisions.{Decision, seat_own};
+ghost use Rattle.kc_machine_history.specs.Insertions.{put_by_entry};
 ghost use Rattle.kc_machine_history.specs.Later.{NothingLaterTouches};
 ghost use Rattle.kc_machine_history.specs.Past.{PutsArePast};
 ghost use Rattle.kc_machine_history.specs.Settled.{CheckedAreSettled, MetAreSettled, Settled};
@@ -47,8 +47,8 @@ pub fn succeeded_puts_are_past()
 
 /// What a decision's pass installed is what the history made, which then makes the puts of its entry.
 pub fn decisions_make_their_puts()
-    ensures finds { (o : Opening) (es : List Event) (e : Event) → IsSchedule o es → (x : Placed) → Decision o es e x → FindsInstalled x (ending (first_store o) (trace o es).history) }
-    ensures makes { (o : Opening) (es : List Event) (e : Event) → IsSchedule o es → (x : Placed) → Decision o es e x → (l : ℕ) → ending (first_store o) (inserted x (trace o es).history) l ≡ cell_after (put_by x l) (ending (first_store o) (trace o es).history l) }
+    ensures finds { (o : Opening) (es : List Event) (e : Event) → IsSchedule o es → (x : Placed) → Decision o es e x → FindsInstalled x (ending_store (first_store o) (trace o es).history) }
+    ensures makes { (o : Opening) (es : List Event) (e : Event) → IsSchedule o es → (x : Placed) → Decision o es e x → (l : ℕ) → ending_store (first_store o) (inserted x (trace o es).history) l ≡ cell_after (put_by_entry x l) (ending_store (first_store o) (trace o es).history l) }
 {}
 
 /// The history is legal where its entries installed: applied in order, each finds these reads. In mode All these are all that it read.
@@ -58,8 +58,8 @@ pub fn histories_are_legal_where_installed()
 
 /// What is known to the history stood at its location at a moment of the schedule, since any moment at which the version was no higher.
 pub fn known_reads_stood()
-    ensures { (o : Opening) (es : List Event) → IsSchedule o es → (r : Seen) (n : ℕ) → n ≤ length es → (ending (first_store o) (history_at o es n) r.loc.0).version ≤ r.version → IsKnown (first_store o) (trace o es).history r
-        → (i : ℕ) × (n ≤ i) × (i ≤ length es) × (ending (first_store o) (history_at o es i) r.loc.0 ≡ cell_of r) }
+    ensures { (o : Opening) (es : List Event) → IsSchedule o es → (r : Seen) (n : ℕ) → n ≤ length es → (ending_store (first_store o) (history_at o es n) r.loc.0).version ≤ r.version → IsKnown (first_store o) (trace o es).history r
+        → (i : ℕ) × (n ≤ i) × (i ≤ length es) × (ending_store (first_store o) (history_at o es i) r.loc.0 ≡ seen_as_cell r) }
 {}
 
 /// The histories of a schedule grow: an earlier one stands in each later one, and at each location its puts come first.
@@ -74,8 +74,8 @@ pub fn settled_places_stay()
 
 /// In an honest schedule each line of a seat that owns a descriptor stands, or the history has made a later version there: a line that no longer fits was put. So does each line of a pass over what is Active.
 pub fn lines_stand_or_are_past()
-    ensures owners { (o : Opening) (es : List Event) → IsSchedule o es → IsHonest o es → (k : ℕ) (i : Intent) (x : Line) → k < o.callers → own_intent (own_of o es k) ≡ Some i → Contains i.lines.items x
-        → (ending (first_store o) (trace o es).history x.seen.loc.0 ≡ cell_of x.seen) ⊎ (x.seen.version < (ending (first_store o) (trace o es).history x.seen.loc.0).version) }
+    ensures owners { (o : Opening) (es : List Event) → IsSchedule o es → IsHonest o es → (k : ℕ) (i : Intent) (x : Line) → k < o.callers → own_intent (seat_own o es k) ≡ Some i → Contains i.lines.items x
+        → (ending_store (first_store o) (trace o es).history x.seen.loc.0 ≡ seen_as_cell x.seen) ⊎ (x.seen.version < (ending_store (first_store o) (trace o es).history x.seen.loc.0).version) }
     ensures passes { (o : Opening) (es : List Event) → IsSchedule o es → IsHonest o es → (j : ℕ) (g : Handle) (mode : Mode) (xs : List Line) (x : Line) → j < o.callers → PassesOver (run o es) j g mode xs → (run o es).world.status g.descriptor ≡ status g.generation Active → Contains xs x
-        → (ending (first_store o) (trace o es).history x.seen.loc.0 ≡ cell_of x.seen) ⊎ (x.seen.version < (ending (first_store o) (trace o es).history x.seen.loc.0).version) }
+        → (ending_store (first_store o) (trace o es).history x.seen.loc.0 ≡ seen_as_cell x.seen) ⊎ (x.seen.version < (ending_store (first_store o) (trace o es).history x.seen.loc.0).version) }
 {}

@@ -21,7 +21,7 @@ use Rattle.kc_machine_invariants.specs.kc_machine_steps.declared.aid.AidNext.The
 use Rattle.kc_machine_invariants.specs.kc_machine.Machine.{State, World, touched, found_at, possible, put_some}
 use Rattle.kc_machine_invariants.specs.kc_machine.Words.{word_is}
 use Rattle.kc_machine_invariants.specs.kc_machine_steps.Aids.{aid_access, aid_next, aid_copy, after_pass, owner_or_first, drop_or_release, copy_owner, copy_line}
-use Rattle.kc_machine_invariants.specs.kc_machine_steps.Lines.{first_of, second_of, resolved_version, resolved_value, word_of}
+use Rattle.kc_machine_invariants.specs.kc_machine_steps.Lines.{first_of, second_of, resolved_version, resolved_value, reference_word}
 use Rattle.kc_machine_invariants.specs.kc_machine_steps.Passes.{from_install, from_release}
 use Rattle.kc_machine_invariants.specs.kc_machine_steps.declared.pass.AfterCheck.TheVariants as checked
 use Rattle.kc_machine_invariants.proofs.PassSteps.{passes}
@@ -29,12 +29,12 @@ use Rattle.kc_machine_invariants.proofs.Tests.{both, word_same, word_else, insta
 use Rattle.kc_machine_invariants.specs.Changes.{held_once_more}
 use Rattle.kc_machine_invariants.specs.Effects
 use Rattle.kc_machine_invariants.specs.Effects.{Path, stay, onward}
-use Rattle.kc_machine_invariants.specs.Stands.{Stand, turn, Over, NoPass, Aids, Passes, aids}
+use Rattle.kc_machine_invariants.specs.Stands.{Stand, turn, Over, NoPass, Aids, Passes, stand_aids}
 use Rattle.kc_machine_invariants.specs.Fits.{AidFits}
 
 -- how a seat stands that goes on from its aid
 abbrev pub next_aid : Stand → Reference → Aided → AidNext → Stand
-next_aid s r c (aiding.Goes a) = aids s r c a
+next_aid s r c (aiding.Goes a) = stand_aids s r c a
 next_aid s r c (aiding.Back o) = record s { aid = Aids r c (aiding.Back o) }
 
 module _ (k : ℕ) (m : State) (t : Stand) (r : Reference) where
@@ -42,13 +42,13 @@ module _ (k : ℕ) (m : State) (t : Stand) (r : Reference) where
   s = record t { pass = NoPass }
 
   abbrev To : Aided → AidStep → World → Aided → AidNext → Type 0
-  To c a v e n = Path k m.world (aids s r c a) v (next_aid s r e n)
+  To c a v e n = Path k m.world (stand_aids s r c a) v (next_aid s r e n)
 
   abbrev one : {w v : World} {a b : Stand} → Effects.Effect k w a v b → Path k w a v b
   one e = onward e stay
 
   -- a pass over the aided descriptor ends, or goes on
-  turned : (c : Aided) (v : World) (p : PassStep) (n : PassNext) → Path k v (record s { aid = Passes r c; pass = Over r.handle c.owner.mode c.lines.items (turn p n) }) v (aids s r c (after_pass n))
+  turned : (c : Aided) (v : World) (p : PassStep) (n : PassNext) → Path k v (record s { aid = Passes r c; pass = Over r.handle c.owner.mode c.lines.items (turn p n) }) v (stand_aids s r c (after_pass n))
   turned c v p (pass.Goes q) = stay
   turned c v p (pass.Met j x) = one (Effects.aid_meets s {xs = c.lines.items})
   turned c v p pass.Left = one (Effects.aid_leaves s {xs = c.lines.items})
@@ -66,14 +66,14 @@ module _ (k : ℕ) (m : State) (t : Stand) (r : Reference) where
   statuses c (Crossed i) e = one (Effects.aid_decided s (Crossed i) e (λ q. cc))
   statuses c Halted e = one (Effects.aid_decided s Halted e (λ q. cc))
 
-  releases : (c : Aided) (p : Phase) (x : Line) (b : Bool) → word_is (m.world.word x.seen.loc.0) (word_of r.handle r.line) ≡ b
+  releases : (c : Aided) (p : Phase) (x : Line) (b : Bool) → word_is (m.world.word x.seen.loc.0) (reference_word r.handle r.line) ≡ b
       → To c (aid.Release p x) (record m.world { word = put_some m.world.word x.seen.loc.0 (if b then Some (Plain (resolved_version (first_of x) p) (resolved_value (first_of x) (second_of x).after p)) else None) }) c (aiding.Goes (aid.Drop false None))
   releases c p x true e = one (Effects.aid_release s {x = x} (word_same _ r.handle r.line e))
   releases c p x false e = one (Effects.aid_skip s {x = x} (word_else _ r.handle r.line e))
 
   -- once all lines are loaded, the pass begins
   loads : (c : Aided) (v : World) (b : Bool) → nat_lt (length c.lines.items) c.owner.lines ≡ b
-      → Path k v (Effects.aided s r c aid.LoadFirst) v (aids s r c (if b then aid.LoadFirst else aid.Pass (from_install c.owner.mode c.lines.items 0)))
+      → Path k v (Effects.aided s r c aid.LoadFirst) v (stand_aids s r c (if b then aid.LoadFirst else aid.Pass (from_install c.owner.mode c.lines.items 0)))
   loads c v true e = stay
   loads c v false e = one (Effects.aid_passes s (from_install c.owner.mode c.lines.items 0) e refl (install_unheld c.owner.mode c.lines.items 0))
 

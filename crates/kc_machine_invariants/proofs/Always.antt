@@ -3,8 +3,8 @@ use Rattle.std.proofs.Common.{sym, subst, ℕ, Bool, true, false, if◌then◌el
 use Rattle.std.specs.Prelude.{nat_lt, All}
 use Rattle.std.proofs.lemmas.List.Elements.{All-head, All-tail}
 use Rattle.kc_machine.proofs.Functions.{put_cases}
-use Rattle.kc_machine.specs.Machine.{State, Opening, put, touched, found_at, possible, stepped, happened, event_of, seat_of, run_from, run, opened}
-use Rattle.kc_machine.specs.Seats.{access_of, answer_of, begun, halted}
+use Rattle.kc_machine.specs.Machine.{State, Opening, put_at_index, touched, found_at, possible, stepped, happened, event_of, seat_of, run_from, run, opened_state}
+use Rattle.kc_machine.specs.Seats.{access_of, seat_answered, begun, halted}
 use Rattle.kc_machine.specs.declared.seat.Seat.{Seat}
 use Rattle.kc_machine.specs.kc_machine_steps.declared.task.Event.{Event}
 use Rattle.kc_machine.specs.kc_machine_steps.declared.task.Event.TheVariants.{Begin, Step, Halt}
@@ -12,17 +12,17 @@ use Rattle.kc_machine.specs.kc_machine_steps.declared.task.Task.{Task}
 use Rattle.kc_machine.specs.kc_machine_words.declared.access.Found.{Found}
 
 -- P k of seat k, through the events of which E holds
-module _ (o : Opening) (P : ℕ → Seat → Type 0) (E : Event → Type 0) (starts : (k : ℕ) → P k ((opened o).seats k)) (answers : (k : ℕ) (s : Seat) (f : Found) → P k s → P k (answer_of s f)) (begins : (k : ℕ) (s : Seat) (t : Task) → E (Begin k t) → P k s → P k (begun s t)) (halts : (k : ℕ) (s : Seat) → P k s → P k (halted s)) where
+module _ (o : Opening) (P : ℕ → Seat → Type 0) (E : Event → Type 0) (starts : (k : ℕ) → P k ((opened_state o).seats k)) (answers : (k : ℕ) (s : Seat) (f : Found) → P k s → P k (seat_answered s f)) (begins : (k : ℕ) (s : Seat) (t : Task) → E (Begin k t) → P k s → P k (begun s t)) (halts : (k : ℕ) (s : Seat) → P k s → P k (halted s)) where
   abbrev AllSeats : State → Type 0
   AllSeats m = (k : ℕ) → P k (m.seats k)
 
-  seat_moves : (m : State) (k : ℕ) (s : Seat) → P k s → AllSeats m → (j : ℕ) → P j (put m.seats k s j)
+  seat_moves : (m : State) (k : ℕ) (s : Seat) → P k s → AllSeats m → (j : ℕ) → P j (put_at_index m.seats k s j)
   seat_moves m k s y g j = put_cases (P j) m.seats k s j (λ q. subst (λ i. P i s) (sym q) y) (λ ne. g j)
 
   steps : (m : State) (k : ℕ) → AllSeats m → AllSeats (stepped m k)
   steps m k g = go (possible m (access_of (m.seats k)))
     where
-      go : (b : Bool) → AllSeats (if b then record m { world = touched m.world (access_of (m.seats k)); seats = put m.seats k (answer_of (m.seats k) (found_at m.world (access_of (m.seats k)))) } else m)
+      go : (b : Bool) → AllSeats (if b then record m { world = touched m.world (access_of (m.seats k)); seats = put_at_index m.seats k (seat_answered (m.seats k) (found_at m.world (access_of (m.seats k)))) } else m)
       go true = seat_moves m k _ (answers k (m.seats k) _ (g k)) g
       go false = g
 
@@ -43,7 +43,7 @@ module _ (o : Opening) (P : ℕ → Seat → Type 0) (E : Event → Type 0) (sta
   run_keeps m (e ∷ es) y g = run_keeps (event_of m e) es (All-tail E e es y) (event_keeps m e (All-head E e es y) g)
 
   pub always : (schedule : List Event) → All E schedule → (k : ℕ) → P k ((run o schedule).seats k)
-  always schedule y = run_keeps (opened o) schedule y starts
+  always schedule y = run_keeps (opened_state o) schedule y starts
 
 abbrev pub any_event : Event → Type 0
 any_event e = Unit {0}

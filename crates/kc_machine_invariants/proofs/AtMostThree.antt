@@ -8,7 +8,7 @@ use Rattle.kc_machine_invariants.specs.kc_machine.declared.hang.HangStep.{HangSt
 use Rattle.kc_machine_invariants.specs.kc_machine.declared.hang.HangStep.TheVariants as hang
 use Rattle.kc_machine_invariants.proofs.Left.{commit_leaves}
 use Rattle.kc_machine_invariants.specs.Holds.{Hold, NoHold, Proper, Stray, own_hold, check_hold, aid_hold, look_hold}
-use Rattle.kc_machine_invariants.specs.Stands.{Stand, NoLook, stand, works, resting, hangs}
+use Rattle.kc_machine_invariants.specs.Stands.{Stand, NoLook, stand, works, resting, stand_hangs}
 use Rattle.kc_machine_invariants.specs.Counts.{one_if_held, holds_of}
 
 one_at_most : (x : Hold) → one_if_held x ≤ 1
@@ -28,9 +28,9 @@ unlooking s q =
 looking : (s : Stand) → one_if_held (look_hold s.look) ≤ 1
 looking s = one_at_most (look_hold s.look)
 
-hung : (t : Seat) (h : Hang) (step : HangStep) → holds_of (hangs (resting t) h.reads.items step) ≤ 3
+hung : (t : Seat) (h : Hang) (step : HangStep) → holds_of (stand_hangs (resting t) h.reads.items step) ≤ 3
 hung t h (hang.Set j) = omega arith
-hung t h (hang.Look j step) = let a = looking (hangs (resting t) h.reads.items (hang.Look j step)) in omega arith
+hung t h (hang.Look j step) = let a = looking (stand_hangs (resting t) h.reads.items (hang.Look j step)) in omega arith
 hung t h (hang.Clear j n) = omega arith
 
 pub three_at_most : (s : Seat) → holds_of (stand s) ≤ 3

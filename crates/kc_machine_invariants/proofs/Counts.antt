@@ -2,7 +2,7 @@
 use Rattle.std.proofs.Common.{◌≡◌, ℕ, zero, suc, ◌+◌, ◌-◌, ◌<◌, ◌≤◌, ◌⊎◌, ⊎_elim, inl, inr, refl, sym, ap, subst, arith, Bool, true, false, if◌then◌else◌}
 use Rattle.std.specs.Prelude.{nat_lt}
 use Rattle.kc_machine_invariants.proofs.kc_machine.Functions.{put_cases}
-use Rattle.kc_machine_invariants.specs.kc_machine.Machine.{World, put}
+use Rattle.kc_machine_invariants.specs.kc_machine.Machine.{World, put_at_index}
 use Rattle.kc_machine_invariants.specs.kc_machine.Words.{control}
 use Rattle.kc_machine_invariants.proofs.Counted.{cells}
 use Rattle.kc_machine_invariants.proofs.Sums.{sum_below_put}
@@ -22,7 +22,7 @@ pub record Takes (w w' : World) (s s' : Stand) : Type 0 where
   pub at : place s.scan ≡ Scanning_at d 0
   pub was : (w.control d).generation ≡ g
   pub low : g < LAST_GENERATION
-  pub now : w'.control ≡ put w.control d (control (g + 1) 1)
+  pub now : w'.control ≡ put_at_index w.control d (control (g + 1) 1)
   pub calls : s'.calls ≡ one_more s.calls
 
 pub record Keeps (w w' : World) (s s' : Stand) : Type 0 where
@@ -58,7 +58,7 @@ pub record Counts (b n m : ℕ) (w : World) (at : ℕ → Stand) : Type 0 where
   pub calls : sum_below (λ k. (at k).calls - MOST_SWAPS) n ≤ sum_below (λ d. (w.control d).generation - b) m
 
 module _ (b n m k : ℕ) (l : k < n) {w w' : World} (at : ℕ → Stand) {s' : Stand} (e : Effects.Effect k w (at k) w' s') (y : Placed m (at k).scan) (p : Counts b n m w at) where
-  keeps_counts : Keeps w w' (at k) s' → Counts b n m w' (put at k s')
+  keeps_counts : Keeps w w' (at k) s' → Counts b n m w' (put_at_index at k s')
   keeps_counts h = record {
     fit = λ d c. let u = p.fit d c in let v = h.same d in omega arith;
     grown = λ d. let u = p.grown d in let v = h.same d in omega arith;
@@ -71,7 +71,7 @@ module _ (b n m k : ℕ) (l : k < n) {w w' : World} (at : ℕ → Stand) {s' : S
   }
 
   -- the first calls count for nothing
-  swaps_counts : Swapped w w' (at k) s' → Counts b n m w' (put at k s')
+  swaps_counts : Swapped w w' (at k) s' → Counts b n m w' (put_at_index at k s')
   swaps_counts h = record {
     fit = λ d c. subst (λ (f : ℕ → Control). (f d).generation ≤ LAST_GENERATION) (sym h.same) (p.fit d c);
     grown = λ d. subst (λ (f : ℕ → Control). b ≤ (f d).generation) (sym h.same) (p.grown d);
@@ -85,7 +85,7 @@ module _ (b n m k : ℕ) (l : k < n) {w w' : World} (at : ℕ → Stand) {s' : S
         omega arith;
   }
 
-  takes_counts : Takes w w' (at k) s' → Counts b n m w' (put at k s')
+  takes_counts : Takes w w' (at k) s' → Counts b n m w' (put_at_index at k s')
   takes_counts h = record {
     fit = λ d c. subst (λ (f : ℕ → Control). (f d).generation ≤ LAST_GENERATION) (sym h.now) (put_cases (λ (x : Control). x.generation ≤ LAST_GENERATION) w.control h.d (control (h.g + 1) 1) d (λ q. let u = h.low in omega arith) (λ ne. p.fit d c));
     grown = λ d. subst (λ (f : ℕ → Control). b ≤ (f d).generation) (sym h.now) (put_cases (λ (x : Control). b ≤ x.generation) w.control h.d (control (h.g + 1) 1) d (λ q. let u = p.grown h.d in let v = h.was in omega arith) (λ ne. p.grown d));
@@ -101,5 +101,5 @@ module _ (b n m k : ℕ) (l : k < n) {w w' : World} (at : ℕ → Stand) {s' : S
         omega arith;
   }
 
-  pub counts_effect : Counts b n m w' (put at k s')
+  pub counts_effect : Counts b n m w' (put_at_index at k s')
   counts_effect = ⊎_elim keeps_counts (⊎_elim takes_counts swaps_counts) (control_moves k e)

@@ -11,7 +11,7 @@ use Rattle.kc_machine_invariants.specs.kc_machine_words.declared.words.Handle.{H
 use Rattle.kc_machine_invariants.specs.kc_machine_words.declared.words.Second.{Second}
 use Rattle.kc_machine_invariants.specs.kc_machine_commits.declared.commit.OwnStep.TheVariants as own
 use Rattle.kc_machine_invariants.proofs.kc_machine.Functions.{put_here, put_cases}
-use Rattle.kc_machine_invariants.specs.kc_machine.Machine.{World, put}
+use Rattle.kc_machine_invariants.specs.kc_machine.Machine.{World, put_at_index}
 use Rattle.kc_machine_invariants.specs.kc_machine_commits.Commits.{fill_next, fill_or_start}
 use Rattle.kc_machine_invariants.proofs.Tests.{some_line}
 use Rattle.kc_machine_invariants.specs.Effects
@@ -44,14 +44,14 @@ owner_moves k _ d = inl refl
 
 pub first_moves : (k : ℕ) {w w' : World} {s s' : Stand} → Effects.Effect k w s w' s' → (d n : ℕ) → (w'.first d n ≡ w.first d n) ⊎ OwnsIt s d
 first_moves k (Effects.fill_first {w} s {h = h} {i = i} {j = j} x e) d n =
-    put_cases (λ y. (y n ≡ w.first d n) ⊎ OwnsIt (record s { own = Owns h i (own.FillFirst j) }) d) w.first h.descriptor (put (w.first h.descriptor) j (first_of x)) d
+    put_cases (λ y. (y n ≡ w.first d n) ⊎ OwnsIt (record s { own = Owns h i (own.FillFirst j) }) d) w.first h.descriptor (put_at_index (w.first h.descriptor) j (first_of x)) d
     (λ q. inr (h.generation, ap (λ x. Proper x h.generation) (sym q)))
     (λ ne. inl refl)
 first_moves k _ d n = inl refl
 
 pub second_moves : (k : ℕ) {w w' : World} {s s' : Stand} → Effects.Effect k w s w' s' → (d n : ℕ) → (w'.second d n ≡ w.second d n) ⊎ OwnsIt s d
 second_moves k (Effects.fill_second {w} s {h = h} {i = i} {j = j} x e) d n =
-    put_cases (λ y. (y n ≡ w.second d n) ⊎ OwnsIt (record s { own = Owns h i (own.FillSecond j) }) d) w.second h.descriptor (put (w.second h.descriptor) j (second_of x)) d
+    put_cases (λ y. (y n ≡ w.second d n) ⊎ OwnsIt (record s { own = Owns h i (own.FillSecond j) }) d) w.second h.descriptor (put_at_index (w.second h.descriptor) j (second_of x)) d
     (λ q. inr (h.generation, ap (λ x. Proper x h.generation) (sym q)))
     (λ ne. inl refl)
 second_moves k _ d n = inl refl
@@ -97,7 +97,7 @@ pub owner_own : (k : ℕ) {w w' : World} {s s' : Stand} → Effects.Effect k w s
 owner_own k (Effects.take s d g e z l) f h i q u = absurd u
 owner_own k (Effects.fill_owner {w} s {h = e} {i = y}) f h i q u =
     let t = same_task e h y i q in
-    subst (λ (a : Handle). put w.owner e.descriptor (owner_word s.caller s.calls y) a.descriptor ≡ owner_word s.caller s.calls i) t.0
+    subst (λ (a : Handle). put_at_index w.owner e.descriptor (owner_word s.caller s.calls y) a.descriptor ≡ owner_word s.caller s.calls i) t.0
     (put_here w.owner e.descriptor (owner_word s.caller s.calls y) ∙ ap (owner_word s.caller s.calls) t.1)
 owner_own k (Effects.fill_second s x e) f h i q u = f h i q tt
 owner_own k (Effects.abandon s stopped) f h i q u = absurd u
@@ -118,8 +118,8 @@ firsts_own k (Effects.fill_owner {w} s {h = e} {i = y}) f h i n x q r u =
 firsts_own k (Effects.fill_first {w} s {h = e} {i = y} {j = j} a g) f h i n x q r u =
     let t = same_task e h y i q in
     let v = ap (λ (a : Intent). slice_get a.lines.items n) t.1 ∙ r in
-    subst (λ (b : Handle). put w.first e.descriptor (put (w.first e.descriptor) j (first_of a)) b.descriptor n ≡ first_of x) t.0
-    (ap (λ (b : ℕ → First). b n) (put_here w.first e.descriptor (put (w.first e.descriptor) j (first_of a)))
+    subst (λ (b : Handle). put_at_index w.first e.descriptor (put_at_index (w.first e.descriptor) j (first_of a)) b.descriptor n ≡ first_of x) t.0
+    (ap (λ (b : ℕ → First). b n) (put_here w.first e.descriptor (put_at_index (w.first e.descriptor) j (first_of a)))
     ∙ put_cases (λ b. b ≡ first_of x) (w.first e.descriptor) j (first_of a) n
     (λ z. ap first_of (some_line (slice_get y.lines.items j) a x g (ap (slice_get y.lines.items) (sym z) ∙ v)))
     (λ ne. f e y n x refl v (omega arith)))
@@ -147,8 +147,8 @@ seconds_own k (Effects.fill_second {w} s {h = e} {i = y} {j = j} a g) f h i n x 
     let v = ap (λ (a : Intent). slice_get a.lines.items n) t.1 ∙ r in
     let b = seconds_to y.lines.items (after_line j) n x v u in
     let c = one_behind j in
-    subst (λ (b : Handle). put w.second e.descriptor (put (w.second e.descriptor) j (second_of a)) b.descriptor n ≡ second_of x) t.0
-    (ap (λ (b : ℕ → Second). b n) (put_here w.second e.descriptor (put (w.second e.descriptor) j (second_of a)))
+    subst (λ (b : Handle). put_at_index w.second e.descriptor (put_at_index (w.second e.descriptor) j (second_of a)) b.descriptor n ≡ second_of x) t.0
+    (ap (λ (b : ℕ → Second). b n) (put_here w.second e.descriptor (put_at_index (w.second e.descriptor) j (second_of a)))
     ∙ put_cases (λ b. b ≡ second_of x) (w.second e.descriptor) j (second_of a) n
     (λ z. ap second_of (some_line (slice_get y.lines.items j) a x g (ap (slice_get y.lines.items) (sym z) ∙ v)))
     (λ ne. f e y n x refl v (omega arith)))

@@ -44,7 +44,7 @@ use Rattle.kc_machine.specs.Works.{Work}
 use Rattle.kc_machine.specs.Works as work
 use Rattle.kc_machine.specs.Hangs.{hangs_on, onward_of, leaves_on, unblocks_or_tells}
 use Rattle.kc_machine.specs.Machine.{Opening, run}
-use Rattle.kc_machine.specs.Seats.{answer_of, answer_by, after, begun, begun_idle, is_idle, working, halted, halted_by, ended}
+use Rattle.kc_machine.specs.Seats.{seat_answered, answer_by, seat_after, begun, begun_idle, is_idle, working, halted, halted_by, seat_halted}
 use Rattle.kc_machine.specs.Seats.{hanging as hanging_of}
 use Rattle.kc_machine.specs.declared.seat.Seat.{Seat}
 use Rattle.kc_machine.specs.kc_machine_commits.Commits.{own_next, stage_next, tells_or_goes, fill_or_start, fill_next, after_own_pass, onward_or_back, aid_or_back, finished, wake_or_drop, wake_or_signal, wake_next, owed_next, copy_by_own, copy_by, loaded, gone_on, onward_by, commit_next}
@@ -54,10 +54,10 @@ use Rattle.kc_machine_invariants.proofs.FitSteps.{NextFits, pass_fits, install_s
 use Rattle.kc_machine_invariants.proofs.Searches.{scanned, taken}
 use Rattle.kc_machine_invariants.specs.Fits.{IsInstalledAt, LoadsOn, MayDecide, StepFits, AidFits, OwnFits, StageFits, WorkFits, PassStepsFit}
 use Rattle.kc_machine.specs.kc_machine_steps.Aids
-use Rattle.kc_machine.specs.kc_machine_steps.Aids.{aid_next, aid_copy, no_copy, hold_next, owner_or_first, status_next, load_next, owner_next, load_second_next, after_pass, drop_or_release, leave_next}
+use Rattle.kc_machine.specs.kc_machine_steps.Aids.{aid_next, aid_copy, no_copy, aid_hold_next, owner_or_first, aid_status_next, aid_load_next, owner_next, load_second_next, after_pass, drop_or_release, leave_next}
 use Rattle.kc_machine.specs.kc_machine_steps.Lines.{next_line, after_line}
 use Rattle.kc_machine.specs.kc_machine_steps.Swaps.{swap_next, swaps_on, ends_at_once}
-use Rattle.kc_machine.specs.kc_machine_steps.Swaps.{onward_of as onward_of_swap}
+use Rattle.kc_machine.specs.kc_machine_steps.Swaps.{onward_of_swap}
 use Rattle.kc_machine.specs.kc_machine_steps.declared.swap.Swap.{Swap}
 use Rattle.kc_machine.specs.kc_machine_steps.declared.swap.SwapNext.{SwapNext}
 use Rattle.kc_machine.specs.kc_machine_steps.declared.swap.SwapNext.TheVariants as swapping
@@ -85,14 +85,14 @@ module _ (b : Bool) (r : Reference) where
   aid_leaves a o (found.Status s) = aid_releases a o s.phase
   aid_leaves a o _ = tt
 
-  aid_loads : (a : Aided) → AidFits b a (load_next a)
+  aid_loads : (a : Aided) → AidFits b a (aid_load_next a)
   aid_loads a = go (nat_lt (length a.lines.items) a.owner.lines) refl
     where
       go : (t : Bool) → nat_lt (length a.lines.items) a.owner.lines ≡ t → AidFits b a (if t then aid.LoadFirst else aid.Pass (from_install a.owner.mode a.lines.items 0))
       go true e = ltb-true _ _ e
       go false e = install_starts b checked.Leave a.owner.mode a.lines.items 0
 
-  aid_holds : (a : Aided) (f : Found) → AidFits b a (hold_next r f)
+  aid_holds : (a : Aided) (f : Found) → AidFits b a (aid_hold_next r f)
   aid_holds a (found.Control c) = go (c.generation == r.handle.generation)
     where
       go : (t : Bool) → AidFits b a (if t then aid.Status else aid.Drop true None)
@@ -100,7 +100,7 @@ module _ (b : Bool) (r : Reference) where
       go false = tt
   aid_holds a _ = tt
 
-  aid_statuses : (a : Aided) (f : Found) → AidFits b a (status_next f)
+  aid_statuses : (a : Aided) (f : Found) → AidFits b a (aid_status_next f)
   aid_statuses a (found.Status s) = go s.phase
     where
       go : (p : Phase) → AidFits b a (owner_or_first p)
@@ -115,11 +115,11 @@ module _ (b : Bool) (r : Reference) where
   aid_owners a (found.Owner o) = aid_loads a
   aid_owners a _ = tt
 
-  aid_firsts : (a : Aided) (p : Phase) (f : Found) → AidFits b a (Aids.first_next p f)
+  aid_firsts : (a : Aided) (p : Phase) (f : Found) → AidFits b a (Aids.aid_first_next p f)
   aid_firsts a p (found.First f) = tt
   aid_firsts a p _ = tt
 
-  aid_seconds : (a : Aided) (p : Phase) (x : First) (f : Found) → AidFits b a (Aids.second_next p x f)
+  aid_seconds : (a : Aided) (p : Phase) (x : First) (f : Found) → AidFits b a (Aids.aid_second_next p x f)
   aid_seconds a p x (found.Second f) = tt
   aid_seconds a p x _ = tt
 
@@ -299,30 +299,30 @@ abbrev pub SeatFits : Seat → Type 0
 SeatFits s = WorkFits s.work
 
 module _ (s : Seat) where
-  look_answers : (l : Look) (b : Bool) (n : LookNext) → SeatFits (after (record s { work = work.Look (looks_on l n) }) (told_by b n))
+  look_answers : (l : Look) (b : Bool) (n : LookNext) → SeatFits (seat_after (record s { work = work.Look (looks_on l n) }) (told_by b n))
   look_answers l true n = tt
   look_answers l false (looking.Goes step) = tt
   look_answers l false (looking.Saw seen) = tt
 
-  commit_answers : (c : Commit) (n : Next) → NextStageFits c c.copy n → SeatFits (after (record s { work = work.Commit (gone_on c n) }) (onward_by n))
+  commit_answers : (c : Commit) (n : Next) → NextStageFits c c.copy n → SeatFits (seat_after (record s { work = work.Commit (gone_on c n) }) (onward_by n))
   commit_answers c (next.Goes x) y = y
   commit_answers c (next.Takes x) y = y
   commit_answers c (next.Tells t) y = tt
 
-  hang_answers : (h : Hang) (n : HangNext) → SeatFits (after (record s { work = work.Hang (hangs_on h n) }) (onward_of n))
+  hang_answers : (h : Hang) (n : HangNext) → SeatFits (seat_after (record s { work = work.Hang (hangs_on h n) }) (onward_of n))
   hang_answers h (hanging.Goes x) = tt
   hang_answers h (hanging.Tells t) = tt
 
-  leave_answers : (l : Leave) (j : ℕ) (o : Option Seen) → SeatFits (after (record s { work = work.Leave (leaves_on l j o) }) (unblocks_or_tells o))
+  leave_answers : (l : Leave) (j : ℕ) (o : Option Seen) → SeatFits (seat_after (record s { work = work.Leave (leaves_on l j o) }) (unblocks_or_tells o))
   leave_answers l j None = tt
   leave_answers l j (Some x) = tt
 
-  swap_answers : (x : Swap) (n : SwapNext) → SeatFits (after (record s { work = work.Swap (swaps_on x n) }) (onward_of_swap n))
+  swap_answers : (x : Swap) (n : SwapNext) → SeatFits (seat_after (record s { work = work.Swap (swaps_on x n) }) (onward_of_swap n))
   swap_answers x (swapping.Goes step) = tt
   swap_answers x (swapping.Takes step) = tt
   swap_answers x (swapping.Tells t) = tt
 
-  pub answer_fits : (f : Found) → SeatFits s → SeatFits (answer_of s f)
+  pub answer_fits : (f : Found) → SeatFits s → SeatFits (seat_answered s f)
   answer_fits f y = go s.work y
     where
       go : (x : Work) → WorkFits x → SeatFits (answer_by s f x)
@@ -351,15 +351,15 @@ module _ (s : Seat) where
       go true = begins t y
       go false = y
 
-  look_halts : (l : Look) (b : Bool) → SeatFits (if b then ended s else record s { work = work.Look (look_halted l) })
+  look_halts : (l : Look) (b : Bool) → SeatFits (if b then seat_halted s else record s { work = work.Look (look_halted l) })
   look_halts l true = tt
   look_halts l false = tt
 
-  swap_halts : (x : Swap) (b : Bool) → SeatFits s → SeatFits (if b then ended s else s)
+  swap_halts : (x : Swap) (b : Bool) → SeatFits s → SeatFits (if b then seat_halted s else s)
   swap_halts x true y = tt
   swap_halts x false y = y
 
-  commit_halts : (c : Commit) (x : Stage) → StageFits c.halted c.intent c.copy x → SeatFits (if unowned x then ended s else record s { work = work.Commit (halted_at c x) })
+  commit_halts : (c : Commit) (x : Stage) → StageFits c.halted c.intent c.copy x → SeatFits (if unowned x then seat_halted s else record s { work = work.Commit (halted_at c x) })
   commit_halts c (Scan d n) y = tt
   commit_halts c (Take d g) y = tt
   commit_halts c (Own h step) y = own_halts c step y

@@ -18,7 +18,7 @@ use Rattle.kc_machine.specs.kc_machine_steps.declared.pass.AfterCheck.TheVariant
 use Rattle.kc_machine.specs.kc_machine_steps.declared.pass.PassNext.{PassNext}
 use Rattle.kc_machine.specs.kc_machine_steps.declared.pass.PassNext.TheVariants as pass
 use Rattle.kc_machine_invariants.proofs.Searches.{IsPicked, next_fits}
-use Rattle.kc_machine_invariants.specs.Fits.{IsInstalledAt, IsCheckedAt, Follows, FollowsOr, MayDecide, StepFits}
+use Rattle.kc_machine_invariants.specs.Fits.{IsInstalledAt, IsCheckedAt, FollowsCheck, FollowsOr, MayDecide, StepFits}
 use Rattle.kc_machine.specs.kc_machine_steps.Lines.{next_line, after_line}
 use Rattle.kc_machine.specs.kc_machine_steps.Looks.{reference_of}
 use Rattle.kc_machine.specs.kc_machine_steps.Passes.{pass_next, install_found, check_found, check_hold_next, check_status_next, crossed_or_first, check_first_found, agrees_or_fails, check_drop_next, decide_next, decided_as, fits, refers_to, from_check, check_or_decide, from_install, install_or_check, from_release, release_or_finish}
@@ -122,7 +122,7 @@ module _ (halted : Bool) (out : AfterCheck) (m : Mode) (xs : List Line) where
   check_statuses k r (found.Status s) y = crosses k r s.phase y
   check_statuses k r _ y = y
 
-  agrees : (k : ℕ) (b : Bool) → Follows k false (agrees_or_fails k b)
+  agrees : (k : ℕ) (b : Bool) → FollowsCheck k false (agrees_or_fails k b)
   agrees k true = inl refl
   agrees k false = inr (inl refl)
 
@@ -146,7 +146,7 @@ module _ (halted : Bool) (out : AfterCheck) (m : Mode) (xs : List Line) where
   check_drops q k (checked.Decide p) y d = d
   check_drops q k checked.Leave y d = d
 
-  may_follow : (k : ℕ) (stray : Bool) (c : AfterCheck) → Follows k stray c → MayFollow c
+  may_follow : (k : ℕ) (stray : Bool) (c : AfterCheck) → FollowsCheck k stray c → MayFollow c
   may_follow k true c e = subst MayFollow (sym e) tt
   may_follow k false c (inl e) = subst MayFollow (sym e) tt
   may_follow k false c (inr (inl e)) = subst MayFollow (sym e) (may_fail k)

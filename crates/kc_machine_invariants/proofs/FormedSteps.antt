@@ -46,9 +46,9 @@ use Rattle.kc_machine.specs.declared.hang.HangNext.TheVariants as hanging
 use Rattle.kc_machine.specs.Waits.{Leave}
 use Rattle.kc_machine.specs.Works.{Work}
 use Rattle.kc_machine.specs.Works as work
-use Rattle.kc_machine.specs.Hangs.{set_or_look, after_set, clear_or_changed, after_clear, look_or_end, look_goes_on, look_of, hang_next, hang_step, hangs_on, onward_of, leaves_on, unblocks_or_tells, next_read}
+use Rattle.kc_machine.specs.Hangs.{set_or_look, after_set, clear_or_changed, after_clear, look_or_end, look_goes_on, hang_look_next, hang_next, hang_step, hangs_on, onward_of, leaves_on, unblocks_or_tells, next_read}
 use Rattle.kc_machine.specs.Machine.{Opening, run}
-use Rattle.kc_machine.specs.Seats.{answer_of, answer_by, after, begun, begun_idle, is_idle, working, halted, halted_by, ended}
+use Rattle.kc_machine.specs.Seats.{seat_answered, answer_by, seat_after, begun, begun_idle, is_idle, working, halted, halted_by, seat_halted}
 use Rattle.kc_machine.specs.Seats.{hanging as hanging_of}
 use Rattle.kc_machine.specs.declared.seat.Seat.{Seat}
 use Rattle.kc_machine.specs.kc_machine_commits.Commits.{own_next, stage_next, tells_or_goes, fill_or_start, fill_next, after_own_pass, onward_or_back, aid_or_back, finished, wake_or_drop, wake_or_signal, wake_next, owed_next, copy_by_own, copy_by, loaded, gone_on, onward_by, commit_next}
@@ -60,16 +60,16 @@ use Rattle.kc_machine_invariants.proofs.Searches.{IsPicked, next_fits, scanned, 
 use Rattle.kc_machine_invariants.specs.Fits.{IsInstalledAt, OwnFits, StageFits, WorkFits}
 use Rattle.kc_machine_invariants.specs.Formed.{OwnIsFormed, StageIsFormed, StandsAtARead, IsCopy, WorkIsFormed, IsWellFormed, SeatsAreWellFormed}
 use Rattle.kc_machine.specs.kc_machine_steps.Aids.{aid_copy, copy_owner, copy_line}
-use Rattle.kc_machine.specs.kc_machine_steps.Lines.{one_more, next_line, after_line, joined}
+use Rattle.kc_machine.specs.kc_machine_steps.Lines.{one_more, next_line, after_line, line_of_halves}
 use Rattle.kc_machine_invariants.specs.Formed.{SwapIsFormed}
 use Rattle.kc_machine.specs.kc_machine_steps.declared.task.Told.TheVariants as told
 use Rattle.kc_model.specs.declared.word.Word.TheVariants.{Plain, Ref}
 use Rattle.kc_model.specs.declared.footprint.TheConstants.{MOST}
 use Rattle.kc_machine.specs.kc_machine_steps.Swaps.{may_swap, exchange_next, swap_next, swap_next_at, swaps_on, ends_at_once}
-use Rattle.kc_machine.specs.kc_machine_steps.Swaps.{owed_next as owed_by_swap}
+use Rattle.kc_machine.specs.kc_machine_steps.Swaps.{swap_owed_next as owed_by_swap}
 use Rattle.kc_machine.specs.kc_machine_steps.declared.swap.SwapStep.{SwapStep}
 use Rattle.kc_machine.specs.kc_machine_steps.declared.swap.SwapStep.TheVariants as swap
-use Rattle.kc_machine.specs.kc_machine_steps.Swaps.{onward_of as onward_of_swap}
+use Rattle.kc_machine.specs.kc_machine_steps.Swaps.{onward_of_swap}
 use Rattle.kc_machine.specs.kc_machine_steps.declared.swap.Swap.{Swap}
 use Rattle.kc_machine.specs.kc_machine_steps.declared.swap.SwapNext.{SwapNext}
 use Rattle.kc_machine.specs.kc_machine_steps.declared.swap.SwapNext.TheVariants as swapping
@@ -206,11 +206,11 @@ module _ (c : Commit) where
 line_copied : (a : Aided) (x : First) (f : Found) → IsCopy a → IsCopy (copy_line a x f)
 line_copied a x (found.Second s) l = go (length a.lines.items == MOST) refl
   where
-    go : (b : Bool) → (length a.lines.items == MOST) ≡ b → IsCopy (if b then a else record a { lines = record { items = a.lines.items ++ joined x s ∷ [] } })
+    go : (b : Bool) → (length a.lines.items == MOST) ≡ b → IsCopy (if b then a else record a { lines = record { items = a.lines.items ++ line_of_halves x s ∷ [] } })
     go true e = l
     go false e =
         let n = eqb-false (length a.lines.items) MOST e in
-        let long : length (a.lines.items ++ joined x s ∷ []) ≤ MOST = omega (arith, n, l, length-append a.lines.items (joined x s ∷ [])) in
+        let long : length (a.lines.items ++ line_of_halves x s ∷ []) ≤ MOST = omega (arith, n, l, length-append a.lines.items (line_of_halves x s ∷ [])) in
         long
 line_copied a x _ l = l
 
@@ -275,7 +275,7 @@ module _ (reads : List Seen) where
       go true = looks_or_ends k
       go false = some_read reads
 
-  looks_at : (k : ℕ) (step : LookStep) (f : Found) → (reads ≢ [] → k < length reads) → (o : Option Seen) → NextIsAt (look_of reads k step f o)
+  looks_at : (k : ℕ) (step : LookStep) (f : Found) → (reads ≢ [] → k < length reads) → (o : Option Seen) → NextIsAt (hang_look_next reads k step f o)
   looks_at k step f y None = y
   looks_at k step f y (Some x) = looks_on_at k x.version (look_next x.loc step f) y
 
@@ -287,21 +287,21 @@ module _ (reads : List Seen) where
 -- ---- a seat
 
 module _ (s : Seat) where
-  look_answers : (l : Look) (b : Bool) (n : LookNext) → l.halted ≡ b → IsWellFormed (after (record s { work = work.Look (looks_on l n) }) (told_by b n))
+  look_answers : (l : Look) (b : Bool) (n : LookNext) → l.halted ≡ b → IsWellFormed (seat_after (record s { work = work.Look (looks_on l n) }) (told_by b n))
   look_answers l true n e = tt
   look_answers l false (looking.Goes step) e = λ q. absurd (cc)
   look_answers l false (looking.Saw seen) e = tt
 
-  commit_answers : (c : Commit) (n : Next) → NextIsFormed c s.calls n → IsCopy c.copy → IsWellFormed (after (record s { work = work.Commit (gone_on c n) }) (onward_by n))
+  commit_answers : (c : Commit) (n : Next) → NextIsFormed c s.calls n → IsCopy c.copy → IsWellFormed (seat_after (record s { work = work.Commit (gone_on c n) }) (onward_by n))
   commit_answers c (next.Goes x) y l = (y, l)
   commit_answers c (next.Takes x) y l = (y, l)
   commit_answers c (next.Tells t) y l = tt
 
-  hang_answers : (h : Hang) (n : HangNext) → s.blocked ≡ false → NextIsAt h.reads.items n → IsWellFormed (after (record s { work = work.Hang (hangs_on h n) }) (onward_of n))
+  hang_answers : (h : Hang) (n : HangNext) → s.blocked ≡ false → NextIsAt h.reads.items n → IsWellFormed (seat_after (record s { work = work.Hang (hangs_on h n) }) (onward_of n))
   hang_answers h (hanging.Goes x) e y = (e, y)
   hang_answers h (hanging.Tells t) e y = tt
 
-  leave_answers : (l : Leave) (j : ℕ) (o : Option Seen) → slice_get l.reads.items j ≡ o → IsWellFormed (after (record s { work = work.Leave (leaves_on l j o) }) (unblocks_or_tells o))
+  leave_answers : (l : Leave) (j : ℕ) (o : Option Seen) → slice_get l.reads.items j ≡ o → IsWellFormed (seat_after (record s { work = work.Leave (leaves_on l j o) }) (unblocks_or_tells o))
   leave_answers l j None e = tt
   leave_answers l j (Some x) e = (refl, slice_get_within l.reads.items j x e)
 
@@ -333,12 +333,12 @@ module _ (s : Seat) where
   swap_stepped r swap.Wake _ = tt
   swap_stepped r (swap.Signal n) f = swap_owed (bit_and n (n - 1))
 
-  swap_answers : (x : Swap) (n : SwapNext) → SwapFormed n → IsWellFormed (after (record s { work = work.Swap (swaps_on x n) }) (onward_of_swap n))
+  swap_answers : (x : Swap) (n : SwapNext) → SwapFormed n → IsWellFormed (seat_after (record s { work = work.Swap (swaps_on x n) }) (onward_of_swap n))
   swap_answers x (swapping.Goes step) y = y
   swap_answers x (swapping.Takes step) y = y
   swap_answers x (swapping.Tells t) y = tt
 
-  answer_formed : (f : Found) → SeatFits s → IsWellFormed s → IsWellFormed (answer_of s f)
+  answer_formed : (f : Found) → SeatFits s → IsWellFormed s → IsWellFormed (seat_answered s f)
   answer_formed f y z = go s.work y z
     where
       go : (x : Work) → WorkFits x → WorkIsFormed s.calls s.blocked x → IsWellFormed (answer_by s f x)
@@ -367,7 +367,7 @@ module _ (s : Seat) where
       go true = begins t y
       go false = y
 
-  look_halts : (l : Look) (step : LookStep) → IsWellFormed (if halts_at_once step then ended s else record s { work = work.Look (look_halted_at l step) })
+  look_halts : (l : Look) (step : LookStep) → IsWellFormed (if halts_at_once step then seat_halted s else record s { work = work.Look (look_halted_at l step) })
   look_halts l look.Load = tt
   look_halts l (look.Hold r) = tt
   look_halts l (look.Status r) = λ q. tt
@@ -375,12 +375,12 @@ module _ (s : Seat) where
   look_halts l (look.Second r p f) = λ q. tt
   look_halts l (look.Drop r stray o) = λ q. tt
 
-  commit_halts : (c : Commit) (x : Stage) → StageIsFormed s.calls c.intent x → IsCopy c.copy → IsWellFormed (if unowned x then ended s else record s { work = work.Commit (halted_at c x) })
+  commit_halts : (c : Commit) (x : Stage) → StageIsFormed s.calls c.intent x → IsCopy c.copy → IsWellFormed (if unowned x then seat_halted s else record s { work = work.Commit (halted_at c x) })
   commit_halts c (Scan d n) y l = tt
   commit_halts c (Take d g) y l = tt
   commit_halts c (Own h step) y l = ((y.0, own_halts c step y.1), l)
 
-  swap_halts : (b : Bool) → IsWellFormed s → IsWellFormed (if b then ended s else s)
+  swap_halts : (b : Bool) → IsWellFormed s → IsWellFormed (if b then seat_halted s else s)
   swap_halts true y = tt
   swap_halts false y = y
 
@@ -398,7 +398,7 @@ module _ (s : Seat) where
 abbrev pub FitsAndFormed : Seat → Type 0
 FitsAndFormed s = SeatFits s × IsWellFormed s
 
-pub answer_keeps : (s : Seat) (f : Found) → FitsAndFormed s → FitsAndFormed (answer_of s f)
+pub answer_keeps : (s : Seat) (f : Found) → FitsAndFormed s → FitsAndFormed (seat_answered s f)
 answer_keeps s f y = (answer_fits s f y.0, answer_formed s f y.0 y.1)
 
 pub begun_keeps : (s : Seat) (t : Task) → FitsAndFormed s → FitsAndFormed (begun s t)

@@ -20,13 +20,13 @@ use Rattle.kc_machine_invariants.specs.kc_machine.Works.{Work}
 use Rattle.kc_machine_invariants.specs.kc_machine_commits.declared.commit.Commit.{Commit}
 use Rattle.kc_machine_invariants.specs.kc_machine.Works as work
 use Rattle.kc_machine_invariants.specs.kc_machine.Machine.{World}
-use Rattle.kc_machine_invariants.specs.kc_machine.Seats.{halted, halted_by, ended}
+use Rattle.kc_machine_invariants.specs.kc_machine.Seats.{halted, halted_by, seat_halted}
 use Rattle.kc_machine_invariants.specs.kc_machine.declared.seat.Seat.{Seat}
 use Rattle.kc_machine_invariants.specs.kc_machine_commits.Halts.{unowned, halted_at, halted_own}
 use Rattle.kc_machine_invariants.proofs.OwnSteps.{path_to}
 use Rattle.kc_machine_invariants.specs.Effects
 use Rattle.kc_machine_invariants.specs.Effects.{Path, stay, onward}
-use Rattle.kc_machine_invariants.specs.Stands.{Stand, stand, works, commits, resting, owns, Looks, Waits, Swaps}
+use Rattle.kc_machine_invariants.specs.Stands.{Stand, stand, works, stand_commits, resting, owns, Looks, Waits, Swaps}
 use Rattle.kc_machine_invariants.specs.kc_machine_steps.Swaps.{ends_at_once}
 use Rattle.kc_machine_invariants.specs.kc_machine_steps.declared.swap.Swap.{Swap}
 use Rattle.kc_machine_invariants.specs.kc_machine_steps.declared.swap.SwapStep.{SwapStep}
@@ -37,7 +37,7 @@ module _ (k : ℕ) (w : World) (s : Seat) where
   abbrev one : {a b : Stand} → Effects.Effect k w a w b → Path k w a w b
   one e = onward e stay
 
-  look_halts : (l : Look) (step : LookStep) → Path k w (record (resting s) { halted = l.halted; look = Looks l.loc (looking.Goes step) }) w (stand (if halts_at_once step then ended s else record s { work = work.Look (look_halted_at l step) }))
+  look_halts : (l : Look) (step : LookStep) → Path k w (record (resting s) { halted = l.halted; look = Looks l.loc (looking.Goes step) }) w (stand (if halts_at_once step then seat_halted s else record s { work = work.Look (look_halted_at l step) }))
   look_halts l look.Load = one (Effects.look_halts (resting s) refl)
   look_halts l (look.Hold r) = one (Effects.look_halts (resting s) refl)
   look_halts l (look.Status r) = one (Effects.halt_look (record (resting s) { halted = l.halted }) r false refl refl)
@@ -121,7 +121,7 @@ module _ (k : ℕ) (w : World) (s : Seat) where
     noted (own.Signal owed) = Effects.halt_commit
     noted (own.Drop p) = Effects.halt_commit
 
-  commit_halts : (c : Commit) (x : Stage) → Path k w (commits (record (resting s) { halted = c.halted }) c.intent c.copy x) w (stand (if unowned x then ended s else record s { work = work.Commit (halted_at c x) }))
+  commit_halts : (c : Commit) (x : Stage) → Path k w (stand_commits (record (resting s) { halted = c.halted }) c.intent c.copy x) w (stand (if unowned x then seat_halted s else record s { work = work.Commit (halted_at c x) }))
   commit_halts c (Scan d n) = one (Effects.halt_scan (resting s) (λ q. cc))
   commit_halts c (Take d g) = one (Effects.halt_scan (resting s) (λ q. cc))
   commit_halts c (Own h step) = onward (noted c h step) (own_halts c h step)
@@ -138,7 +138,7 @@ module _ (k : ℕ) (w : World) (s : Seat) where
       go (work.Leave l) e = path_to k (ap (works (resting s)) (sym e)) stay
       go (work.Swap x) e = at x x.step e refl
         where
-          at : (x : Swap) (step : SwapStep) → s.work ≡ work.Swap x → x.step ≡ step → Path k w (record (resting s) { swap = Swaps x.seen x.after step }) w (stand (if ends_at_once step then ended s else s))
+          at : (x : Swap) (step : SwapStep) → s.work ≡ work.Swap x → x.step ≡ step → Path k w (record (resting s) { swap = Swaps x.seen x.after step }) w (stand (if ends_at_once step then seat_halted s else s))
           at x swap.Exchange e q = one (Effects.halt_swap (resting s))
           at x swap.Wake e q = path_to k (ap (λ n. record (resting s) { swap = Swaps x.seen x.after n }) (sym q) ∙ ap (works (resting s)) (sym e)) stay
           at x (swap.Signal owed) e q = path_to k (ap (λ n. record (resting s) { swap = Swaps x.seen x.after n }) (sym q) ∙ ap (works (resting s)) (sym e)) stay

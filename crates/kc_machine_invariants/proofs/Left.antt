@@ -10,13 +10,13 @@ use Rattle.kc_machine_invariants.specs.kc_machine_commits.declared.commit.OwnSte
 use Rattle.kc_machine_invariants.specs.kc_machine_commits.declared.commit.Stage.{Stage}
 use Rattle.kc_machine_invariants.specs.kc_machine_commits.declared.commit.Stage.TheVariants.{Scan, Take, Own}
 use Rattle.kc_machine_invariants.specs.kc_machine_commits.declared.commit.OwnStep.TheVariants as own
-use Rattle.kc_machine_invariants.specs.Stands.{Stand, Waits, commits, owns, aids}
+use Rattle.kc_machine_invariants.specs.Stands.{Stand, Waits, stand_commits, owns, stand_aids}
 
 -- both are as they were
 abbrev Leaves : Stand → Stand → Type 0
 Leaves t s = (s.told ≡ t.told) × (s.look ≡ t.look)
 
-aid_leaves : (t : Stand) (r : Reference) (c : Aided) (a : AidStep) → Leaves t (aids t r c a)
+aid_leaves : (t : Stand) (r : Reference) (c : Aided) (a : AidStep) → Leaves t (stand_aids t r c a)
 aid_leaves t r c aid.Hold = (refl, refl)
 aid_leaves t r c aid.Status = (refl, refl)
 aid_leaves t r c (aid.First p) = (refl, refl)
@@ -41,13 +41,13 @@ own_leaves t c h (own.Wake j owed) = (refl, refl)
 own_leaves t c h (own.Signal owed) = (refl, refl)
 own_leaves t c h (own.Drop p) = (refl, refl)
 
-pub commit_leaves : (t : Stand) (c : Commit) (x : Stage) → Leaves t (commits t c.intent c.copy x)
+pub commit_leaves : (t : Stand) (c : Commit) (x : Stage) → Leaves t (stand_commits t c.intent c.copy x)
 commit_leaves t c (Scan d worn) = (refl, refl)
 commit_leaves t c (Take d g) = (refl, refl)
 commit_leaves t c (Own h step) = own_leaves t c h step
 
 -- a commit swaps nothing
-aid_unswapped : (t : Stand) (r : Reference) (c : Aided) (a : AidStep) → (aids t r c a).swap ≡ t.swap
+aid_unswapped : (t : Stand) (r : Reference) (c : Aided) (a : AidStep) → (stand_aids t r c a).swap ≡ t.swap
 aid_unswapped t r c aid.Hold = refl
 aid_unswapped t r c aid.Status = refl
 aid_unswapped t r c (aid.First p) = refl
@@ -60,7 +60,7 @@ aid_unswapped t r c (aid.Pass p) = refl
 aid_unswapped t r c (aid.Leave o) = refl
 aid_unswapped t r c (aid.Drop stray o) = refl
 
-pub commit_unswapped : (t : Stand) (c : Commit) (x : Stage) → (commits t c.intent c.copy x).swap ≡ t.swap
+pub commit_unswapped : (t : Stand) (c : Commit) (x : Stage) → (stand_commits t c.intent c.copy x).swap ≡ t.swap
 commit_unswapped t c (Scan d worn) = refl
 commit_unswapped t c (Take d g) = refl
 commit_unswapped t c (Own h (own.Aid j r a)) = aid_unswapped (record t { own = Waits h c.intent j }) r c.copy a

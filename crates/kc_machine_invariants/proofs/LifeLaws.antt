@@ -1,6 +1,6 @@
 -- The laws of the pool, over every opening and every schedule.
 use Rattle.std.proofs.Common.{ℕ, zero, suc, ◌<◌, ◌≤◌, ◌≡◌, ap, refl, ⊎_elim, subst, arith, List}
-use Rattle.kc_machine_invariants.specs.kc_machine.Machine.{World, Opening, put, run, opened}
+use Rattle.kc_machine_invariants.specs.kc_machine.Machine.{World, Opening, put_at_index, run, opened_state}
 use Rattle.kc_machine_invariants.proofs.PoolLaws.{opened_pool, holds_kept}
 use Rattle.kc_machine_invariants.proofs.Pools.{Pool, pool_effect}
 use Rattle.kc_machine_invariants.proofs.Runs.{holds_after}
@@ -19,7 +19,7 @@ use Rattle.kc_machine_invariants.specs.References.{RememberedArePublished, Words
 use Rattle.kc_machine_invariants.specs.kc_machine_steps.declared.task.Event.{Event}
 use Rattle.kc_machine_invariants.specs.kc_machine_words.declared.words.Status.{Status}
 
-pub opened_lives : (o : Opening) → Lives o.callers (opened o).descriptors (opened o).world (λ k. stand ((opened o).seats k))
+pub opened_lives : (o : Opening) → Lives o.callers (opened_state o).descriptors (opened_state o).world (λ k. stand ((opened_state o).seats k))
 opened_lives o = record {
   pool = opened_pool o;
   differ = λ i j d g h b c q r. absurd (cc);
@@ -96,7 +96,7 @@ record Bounds (b n m : ℕ) (w : World) (at : ℕ → Stand) : Type 0 where
   pub pool : Pool n m w at
   pub counts : Counts b n m w at
 
-bounds_effect : (b n m k : ℕ) → k < n → (w w' : World) (at : ℕ → Stand) (s' : Stand) → Effect k w (at k) w' s' → Bounds b n m w at → Bounds b n m w' (put at k s')
+bounds_effect : (b n m k : ℕ) → k < n → (w w' : World) (at : ℕ → Stand) (s' : Stand) → Effect k w (at k) w' s' → Bounds b n m w at → Bounds b n m w' (put_at_index at k s')
 bounds_effect b n m k l w w' at s' e p = record { pool = pool_effect n m k l at e p.pool; counts = counts_effect b n m k l at e (p.pool.search k l).place p.counts }
 
 none_called : (f : ℕ → ℕ) (n t : ℕ) → ((k : ℕ) → f k ≡ 0) → sum_below f n ≤ t

@@ -1,7 +1,7 @@
 -- The facts of the lives of descriptors, which each effect keeps.
 use Rattle.std.proofs.Common.{◌≡◌, ◌≢◌, ℕ, ◌<◌, ◌≤◌, ◌∙◌, ⊎_elim, sym, subst, arith}
 use Rattle.kc_machine_invariants.proofs.kc_machine.Functions.{put_here, put_cases}
-use Rattle.kc_machine_invariants.specs.kc_machine.Machine.{World, put}
+use Rattle.kc_machine_invariants.specs.kc_machine.Machine.{World, put_at_index}
 use Rattle.kc_machine_invariants.proofs.Held.{Fits}
 use Rattle.kc_machine_invariants.proofs.Pools.{Pool, pool_effect}
 use Rattle.kc_machine_invariants.proofs.Sums.{sum_below_part}
@@ -15,7 +15,7 @@ use Rattle.kc_machine_invariants.proofs.Published.{Words, Out, LifeOut, status_g
 use Rattle.kc_machine_invariants.proofs.Remembered.{met_own, aided_own, onward_own, look_own}
 use Rattle.kc_machine_invariants.proofs.Shapes.{Shape, shape_own}
 use Rattle.kc_machine_invariants.proofs.Statuses.{Owned, status_moves, control_grows, owned_own}
-use Rattle.kc_machine_invariants.specs.Filled.{Filled}
+use Rattle.kc_machine_invariants.specs.Filled.{OwnedIsFilled}
 use Rattle.kc_machine_invariants.specs.Owners.{is_filling, Follows}
 use Rattle.kc_machine_invariants.specs.References.{met_by_pass, met_by_aid, onward_by_aid, met_by_look}
 use Rattle.kc_machine_invariants.specs.kc_machine_steps.Passes.{status}
@@ -60,7 +60,7 @@ pub record Lives (n m : ℕ) (w : World) (at : ℕ → Stand) : Type 0 where
   pub pass_knows : (k : ℕ) → k < n → PassKnows w (at k).own (at k).pass
   pub words : Words w
   pub met : (k : ℕ) → k < n → Met w (at k)
-  pub filled : (k : ℕ) → k < n → Filled w (at k)
+  pub filled : (k : ℕ) → k < n → OwnedIsFilled w (at k)
 
 -- the generation of a hold that fits
 pub fitting : (w : World) (d g : ℕ) → Fits w (Proper d g) → (w.control d).generation ≡ g
@@ -82,8 +82,8 @@ module _ (n m k : ℕ) (l : k < n) {w w' : World} (at : ℕ → Stand) {s' : Sta
       absurd (omega arith))
       (owned_before k e d g q)
 
-  lives_differ : Differ n (put at k s')
-  lives_differ i j d g h b c = put_cases (λ x. own_hold x.own ≡ Proper d g → own_hold (put at k s' j).own ≡ Proper d h → i ≡ j) at k s' i
+  lives_differ : Differ n (put_at_index at k s')
+  lives_differ i j d g h b c = put_cases (λ x. own_hold x.own ≡ Proper d g → own_hold (put_at_index at k s' j).own ≡ Proper d h → i ≡ j) at k s' i
       (λ y. put_cases (λ x. own_hold s'.own ≡ Proper d g → own_hold x.own ≡ Proper d h → i ≡ j) at k s' j
       (λ z q r. y ∙ sym z)
       (λ ne q r. absurd (apart j d g h c ne q r)))
@@ -104,12 +104,12 @@ module _ (n m k : ℕ) (l : k < n) {w w' : World} (at : ℕ → Stand) {s' : Sta
   keeps_status : (j d g : ℕ) → j < n → j ≢ k → own_hold (at j).own ≡ Proper d g → (w'.status d).generation ≡ (w.status d).generation
   keeps_status j d g b ne q = ⊎_elim (λ y. y) (λ f. absurd (ne (p.differ j k d g (w'.status d).generation b l q f.owns))) (status_moves k e d)
 
-  lives_owned : (j : ℕ) → j < n → Owned w' (put at k s' j).own
+  lives_owned : (j : ℕ) → j < n → Owned w' (put_at_index at k s' j).own
   lives_owned j b = put_cases (λ x. Owned w' x.own) at k s' j
       (λ q. owned_own k e p.behind (p.owned k l))
       (λ ne d g q. subst (λ x. Follows (is_filling (at j).own) x g) (sym (keeps_status j d g b ne q)) (p.owned j b d g q))
 
-  lives_active : (d g : ℕ) → w'.status d ≡ status g Active → (j : ℕ) × (j < n) × Undecides (put at k s' j) d g
+  lives_active : (d g : ℕ) → w'.status d ≡ status g Active → (j : ℕ) × (j < n) × Undecides (put_at_index at k s' j) d g
   lives_active d g x = ⊎_elim
       (λ y. let o = p.active d g y in (
         o.0,
@@ -125,12 +125,12 @@ module _ (n m k : ℕ) (l : k < n) {w w' : World} (at : ℕ → Stand) {s' : Sta
   stays_decided : (j d g : ℕ) (x : Phase) → j < n → j ≢ k → own_hold (at j).own ≡ Proper d g → Decided w d x → Decided w' d x
   stays_decided j d g x b ne q y = ⊎_elim (λ z. z) (λ f. absurd (ne (p.differ j k d g f.0 b l q f.1.owns))) (decided_moves k e d x y)
 
-  lives_knows : (j : ℕ) → j < n → Knows w' (put at k s' j).own
+  lives_knows : (j : ℕ) → j < n → Knows w' (put_at_index at k s' j).own
   lives_knows j b = put_cases (λ x. Knows w' x.own) at k s' j
       (λ q. knows_own k e (p.pass_knows k l) (p.knows k l))
       (λ ne d g x q r. stays_decided j d g x b ne q (p.knows j b d g x q r))
 
-  lives_pass_knows : (j : ℕ) → j < n → PassKnows w' (put at k s' j).own (put at k s' j).pass
+  lives_pass_knows : (j : ℕ) → j < n → PassKnows w' (put_at_index at k s' j).own (put_at_index at k s' j).pass
   lives_pass_knows j b = put_cases (λ x. PassKnows w' x.own x.pass) at k s' j
       (λ q. pass_knows_own k e (p.shape k l) (p.owned k l) (p.pass_knows k l))
       (λ ne d g x q r t. stays_decided j d g x b ne q (p.pass_knows j b d g x q r t))
@@ -139,19 +139,19 @@ module _ (n m k : ℕ) (l : k < n) {w w' : World} (at : ℕ → Stand) {s' : Sta
   not_mine : {A : Type 0} (j d g : ℕ) → j < n → j ≢ k → own_hold (at j).own ≡ Proper d g → OwnsIt (at k) d → A
   not_mine j d g b ne q f = absurd (ne (p.differ j k d g f.0 b l q f.1))
 
-  filled_kept : (j : ℕ) → j < n → j ≢ k → Filled w' (at j)
+  filled_kept : (j : ℕ) → j < n → j ≢ k → OwnedIsFilled w' (at j)
   filled_kept j b ne = let f = p.filled j b in (
     λ h i q u. ⊎_elim (λ y. y ∙ f.0 h i q u) (not_mine j h.descriptor h.generation b ne (task_held (at j).own h i q)) (owner_moves k e h.descriptor),
     λ h i c x q r u. ⊎_elim (λ y. y ∙ f.1 h i c x q r u) (not_mine j h.descriptor h.generation b ne (task_held (at j).own h i q)) (first_moves k e h.descriptor c),
     λ h i c x q r u. ⊎_elim (λ y. y ∙ f.2 h i c x q r u) (not_mine j h.descriptor h.generation b ne (task_held (at j).own h i q)) (second_moves k e h.descriptor c),
   )
 
-  lives_filled : (j : ℕ) → j < n → Filled w' (put at k s' j)
-  lives_filled j b = put_cases (Filled w') at k s' j
+  lives_filled : (j : ℕ) → j < n → OwnedIsFilled w' (put_at_index at k s' j)
+  lives_filled j b = put_cases (OwnedIsFilled w') at k s' j
       (λ q. let f = p.filled k l in (owner_own k e f.0, firsts_own k e f.1, seconds_own k e f.2))
       (filled_kept j b)
 
-  pub lives_effect : Lives n m w' (put at k s')
+  pub lives_effect : Lives n m w' (put_at_index at k s')
   lives_effect = record {
     pool = pool_effect n m k l at e p.pool;
     differ = lives_differ;

@@ -26,7 +26,7 @@ saw_unheld l (Some x) = refl
 
 module _ (k : ℕ) (m : State) (s : Stand) (l : Loc) where
   abbrev To : LookStep → World → LookNext → Type 0
-  To step v n = Effects.Effect k m.world (Effects.looked s l step) v (record s { look = Looks l n })
+  To step v n = Effects.Effect k m.world (Effects.stand_looked s l step) v (record s { look = Looks l n })
 
   loads : (v : Word) → m.world.word l.0 ≡ v → To look.Load m.world (load_next l (found.Word v))
   loads (Plain a b) e = Effects.look_plain s e

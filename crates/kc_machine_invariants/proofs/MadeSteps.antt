@@ -24,7 +24,7 @@ use Rattle.kc_machine.specs.Works as work
 use Rattle.kc_machine.specs.Hangs.{hang_step, hangs_on, onward_of, leaves_on, unblocks_or_tells, next_read}
 use Rattle.kc_machine.specs.Machine.{Opening, run}
 use Rattle.kc_machine.specs.Schedules.{IsWellMadeTask, BeginsWellMade, IsSchedule}
-use Rattle.kc_machine.specs.Seats.{answer_of, answer_by, after, begun, begun_idle, is_idle, working, halted, halted_by, ended}
+use Rattle.kc_machine.specs.Seats.{seat_answered, answer_by, seat_after, begun, begun_idle, is_idle, working, halted, halted_by, seat_halted}
 use Rattle.kc_machine.specs.Seats.{hanging as hanging_of}
 use Rattle.kc_machine.specs.declared.seat.Seat.{Seat}
 use Rattle.kc_machine.specs.kc_machine_commits.Commits.{loaded, gone_on, onward_by, commit_next}
@@ -35,7 +35,7 @@ use Rattle.kc_machine_invariants.proofs.Intents.{intent_made}
 use Rattle.kc_machine_invariants.specs.Formed.{WorkIsFormed, HangStands, HangsStandAtReads}
 use Rattle.kc_machine_invariants.specs.Made.{IntentIsMade, ReadsAreMade, IntentsAreWellMade, ReadsAreWellMade}
 use Rattle.kc_machine.specs.kc_machine_steps.Swaps.{swap_next, swaps_on, ends_at_once}
-use Rattle.kc_machine.specs.kc_machine_steps.Swaps.{onward_of as onward_of_swap}
+use Rattle.kc_machine.specs.kc_machine_steps.Swaps.{onward_of_swap}
 use Rattle.kc_machine.specs.kc_machine_steps.declared.swap.Swap.{Swap}
 use Rattle.kc_machine.specs.kc_machine_steps.declared.swap.SwapNext.{SwapNext}
 use Rattle.kc_machine.specs.kc_machine_steps.declared.swap.SwapNext.TheVariants as swapping
@@ -48,30 +48,30 @@ abbrev SeatMade : ℕ → Seat → Type 0
 SeatMade n s = Made n s.work
 
 module _ (n : ℕ) (s : Seat) where
-  look_answers : (l : Look) (b : Bool) (x : LookNext) → Made n (work.Look l) → SeatMade n (after (record s { work = work.Look (looks_on l x) }) (told_by b x))
+  look_answers : (l : Look) (b : Bool) (x : LookNext) → Made n (work.Look l) → SeatMade n (seat_after (record s { work = work.Look (looks_on l x) }) (told_by b x))
   look_answers l true x y = (tt, tt)
   look_answers l false (looking.Goes step) y = y
   look_answers l false (looking.Saw seen) y = (tt, tt)
 
-  commit_answers : (c : Commit) (x : Next) → Made n (work.Commit c) → SeatMade n (after (record s { work = work.Commit (gone_on c x) }) (onward_by x))
+  commit_answers : (c : Commit) (x : Next) → Made n (work.Commit c) → SeatMade n (seat_after (record s { work = work.Commit (gone_on c x) }) (onward_by x))
   commit_answers c (next.Goes x) y = y
   commit_answers c (next.Takes x) y = y
   commit_answers c (next.Tells t) y = (tt, tt)
 
-  hang_answers : (h : Hang) (x : HangNext) → Made n (work.Hang h) → SeatMade n (after (record s { work = work.Hang (hangs_on h x) }) (onward_of x))
+  hang_answers : (h : Hang) (x : HangNext) → Made n (work.Hang h) → SeatMade n (seat_after (record s { work = work.Hang (hangs_on h x) }) (onward_of x))
   hang_answers h (hanging.Goes x) y = y
   hang_answers h (hanging.Tells t) y = (tt, tt)
 
-  leave_answers : (l : Leave) (j : ℕ) (o : Option Seen) → Made n (work.Leave l) → SeatMade n (after (record s { work = work.Leave (leaves_on l j o) }) (unblocks_or_tells o))
+  leave_answers : (l : Leave) (j : ℕ) (o : Option Seen) → Made n (work.Leave l) → SeatMade n (seat_after (record s { work = work.Leave (leaves_on l j o) }) (unblocks_or_tells o))
   leave_answers l j None y = (tt, tt)
   leave_answers l j (Some x) y = y
 
-  swap_answers : (x : Swap) (m : SwapNext) → Made n (work.Swap x) → SeatMade n (after (record s { work = work.Swap (swaps_on x m) }) (onward_of_swap m))
+  swap_answers : (x : Swap) (m : SwapNext) → Made n (work.Swap x) → SeatMade n (seat_after (record s { work = work.Swap (swaps_on x m) }) (onward_of_swap m))
   swap_answers x (swapping.Goes step) y = y
   swap_answers x (swapping.Takes step) y = y
   swap_answers x (swapping.Tells t) y = (tt, tt)
 
-  answer_made : (f : Found) → SeatMade n s → SeatMade n (answer_of s f)
+  answer_made : (f : Found) → SeatMade n s → SeatMade n (seat_answered s f)
   answer_made f y = go s.work y
     where
       go : (x : Work) → Made n x → SeatMade n (answer_by s f x)
@@ -100,7 +100,7 @@ module _ (n : ℕ) (s : Seat) where
       go true = begins t z y
       go false = y
 
-  look_halts : (l : Look) (step : LookStep) → Made n (work.Look l) → SeatMade n (if halts_at_once step then ended s else record s { work = work.Look (look_halted_at l step) })
+  look_halts : (l : Look) (step : LookStep) → Made n (work.Look l) → SeatMade n (if halts_at_once step then seat_halted s else record s { work = work.Look (look_halted_at l step) })
   look_halts l look.Load y = (tt, tt)
   look_halts l (look.Hold r) y = (tt, tt)
   look_halts l (look.Status r) y = y
@@ -108,12 +108,12 @@ module _ (n : ℕ) (s : Seat) where
   look_halts l (look.Second r p f) y = y
   look_halts l (look.Drop r stray o) y = y
 
-  commit_halts : (c : Commit) (x : Stage) → Made n (work.Commit c) → SeatMade n (if unowned x then ended s else record s { work = work.Commit (halted_at c x) })
+  commit_halts : (c : Commit) (x : Stage) → Made n (work.Commit c) → SeatMade n (if unowned x then seat_halted s else record s { work = work.Commit (halted_at c x) })
   commit_halts c (Scan d g) y = (tt, tt)
   commit_halts c (Take d g) y = (tt, tt)
   commit_halts c (Own h step) y = y
 
-  swap_halts : (b : Bool) → SeatMade n s → SeatMade n (if b then ended s else s)
+  swap_halts : (b : Bool) → SeatMade n s → SeatMade n (if b then seat_halted s else s)
   swap_halts true y = (tt, tt)
   swap_halts false y = y
 

@@ -39,14 +39,14 @@ use Rattle.kc_machine_invariants.proofs.Tests.{both, install_unheld, subtracts}
 use Rattle.kc_machine_invariants.specs.Changes.{held_once_less}
 use Rattle.kc_machine_invariants.specs.Effects
 use Rattle.kc_machine_invariants.specs.Effects.{Path, stay, onward}
-use Rattle.kc_machine_invariants.specs.Stands.{Stand, turn, Over, Runs, Waits, Owns, owns, commits, idle}
+use Rattle.kc_machine_invariants.specs.Stands.{Stand, turn, Over, Runs, Waits, Owns, owns, stand_commits, idle}
 use Rattle.kc_machine_invariants.proofs.FitSteps.{NextFits, pass_fits, halted_decided}
 use Rattle.kc_machine_invariants.specs.Fits.{OwnFits, StageFits}
 
 -- how a seat stands after a step of its commit
 abbrev pub next_commit : Stand → Commit → Next → Stand
-next_commit s c (Goes stage) = commits (record (idle s) { halted = c.halted }) c.intent c.copy stage
-next_commit s c (Takes stage) = commits (record (idle s) { halted = c.halted; calls = one_more s.calls }) c.intent c.copy stage
+next_commit s c (Goes stage) = stand_commits (record (idle s) { halted = c.halted }) c.intent c.copy stage
+next_commit s c (Takes stage) = stand_commits (record (idle s) { halted = c.halted; calls = one_more s.calls }) c.intent c.copy stage
 next_commit s c (Tells t) = record (Effects.ends s t) { blocked = blocked_by s.blocked t }
 
 pub join : (k : ℕ) {w v u : World} {s t r : Stand} → Path k w s v t → Path k v t u r → Path k w s u r
@@ -177,7 +177,7 @@ module _ (k : ℕ) (m : State) (s : Stand) (c : Commit) where
   u = record (idle s) { halted = c.halted }
 
   abbrev Ends : Stage → World → Next → Type 0
-  Ends x v next = Path k m.world (commits u c.intent c.copy x) v (next_commit s c next)
+  Ends x v next = Path k m.world (stand_commits u c.intent c.copy x) v (next_commit s c next)
 
   abbrev only : {w v : World} {a b : Stand} → Effects.Effect k w a v b → Path k w a v b
   only e = onward e stay
@@ -212,12 +212,12 @@ module _ (k : ℕ) (m : State) (s : Stand) (c : Commit) where
   takes d g false e = only (Effects.take_lost u {i = c.intent} {d = d} {g = g})
 
   stages : (x : Stage) → StageFits c.halted c.intent c.copy x → possible m (stage_access s.caller s.calls c x) ≡ true
-      → Path k m.world (commits u c.intent c.copy x) (touched m.world (stage_access s.caller s.calls c x)) (next_commit s (record c { copy = copy_by c.copy x (found_at m.world (stage_access s.caller s.calls c x)) }) (stage_next s.descriptors s.calls (record c { copy = copy_by c.copy x (found_at m.world (stage_access s.caller s.calls c x)) }) x (found_at m.world (stage_access s.caller s.calls c x))))
+      → Path k m.world (stand_commits u c.intent c.copy x) (touched m.world (stage_access s.caller s.calls c x)) (next_commit s (record c { copy = copy_by c.copy x (found_at m.world (stage_access s.caller s.calls c x)) }) (stage_next s.descriptors s.calls (record c { copy = copy_by c.copy x (found_at m.world (stage_access s.caller s.calls c x)) }) x (found_at m.world (stage_access s.caller s.calls c x))))
   stages (Scan d worn) z y = scans d worn
   stages (Take d g) z y = takes d g _ refl
   stages (Own h step) z y = own_steps k m s c h step z y
 
   pub commit_steps : StageFits c.halted c.intent c.copy c.stage → possible m (commit_access s.caller s.calls c) ≡ true
-      → Path k m.world (commits u c.intent c.copy c.stage) (touched m.world (commit_access s.caller s.calls c))
+      → Path k m.world (stand_commits u c.intent c.copy c.stage) (touched m.world (commit_access s.caller s.calls c))
       (next_commit s (loaded c (found_at m.world (commit_access s.caller s.calls c))) (commit_next s.descriptors s.calls (loaded c (found_at m.world (commit_access s.caller s.calls c))) (found_at m.world (commit_access s.caller s.calls c))))
   commit_steps z y = stages c.stage z y

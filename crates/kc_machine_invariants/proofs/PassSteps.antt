@@ -26,22 +26,22 @@ use Rattle.kc_machine_invariants.specs.Changes.{held_once_more, with_status}
 use Rattle.kc_machine_invariants.specs.Effects
 use Rattle.kc_machine_invariants.specs.Stands.{Stand, turn}
 use Rattle.kc_machine_invariants.specs.Fits.{IsInstalledAt, MayDecide, StepFits}
-use Rattle.kc_machine_invariants.specs.kc_machine_steps.Lines.{after_line, first_of, second_of, resolved_version, resolved_value, word_of, is_installed}
+use Rattle.kc_machine_invariants.specs.kc_machine_steps.Lines.{after_line, first_of, second_of, resolved_version, resolved_value, reference_word, is_installed}
 use Rattle.kc_machine_invariants.specs.kc_machine_steps.Looks.{reference_of}
 use Rattle.kc_machine_invariants.specs.kc_machine_steps.Passes.{pass_access, pass_next, install_access, install_found, check_access, check_found, release_at, fits, refers_to, status, from_install, from_check, from_release, decided_as, crossed_or_first, check_first_found}
 
 -- the way out of the pass is `out`; where that is its decision, the task halts itself
 module _ (k : ℕ) (m : State) (s : Stand) (h : Handle) (md : Mode) (xs : List Line) (halted : Bool) (out : AfterCheck) (halts : halted ≡ true → out ≡ checked.Decide Halted → Effects.HaltsItself s) where
   abbrev To : PassStep → World → PassNext → Type 0
-  To p v n = Effects.Effect k m.world (Effects.passes s h md xs p) v (Effects.turns s h md xs (turn p n))
+  To p v n = Effects.Effect k m.world (Effects.passes s h md xs p) v (Effects.stand_turns s h md xs (turn p n))
 
   -- the line's word is v
   installs_at : (j : ℕ) (x : Line) → slice_get xs j ≡ Some x → is_installed md x ≡ true → j < MOST → (v : Word) → m.world.word x.seen.loc.0 ≡ v
-      → To (Install j) (record m.world { word = put_some m.world.word x.seen.loc.0 (if word_is v (Plain x.seen.version x.seen.value) then Some (word_of h j) else None) }) (install_found h md xs j (found.Word v) (Some x))
+      → To (Install j) (record m.world { word = put_some m.world.word x.seen.loc.0 (if word_is v (Plain x.seen.version x.seen.value) then Some (reference_word h j) else None) }) (install_found h md xs j (found.Word v) (Some x))
   installs_at j x e i l (Plain a b) q = go (fits a b x) refl
     where
       go : (t : Bool) → fits a b x ≡ t
-          → To (Install j) (record m.world { word = put_some m.world.word x.seen.loc.0 (if t then Some (word_of h j) else None) }) (if t then pass.Goes (from_install md xs (after_line j)) else pass.Goes (Decide (Failed j)))
+          → To (Install j) (record m.world { word = put_some m.world.word x.seen.loc.0 (if t then Some (reference_word h j) else None) }) (if t then pass.Goes (from_install md xs (after_line j)) else pass.Goes (Decide (Failed j)))
       go true z = Effects.install s {xs = xs} x (from_install md xs (after_line j)) e (q ∙ plain_same a b _ _ z) refl (install_unheld md xs (after_line j)) i l
       go false z = Effects.unfit s {xs = xs} x e q z
   installs_at j x e y l (Ref g d i) q = go (refers_to h j (reference_of g d i)) refl
@@ -100,9 +100,9 @@ module _ (k : ℕ) (m : State) (s : Stand) (h : Handle) (md : Mode) (xs : List L
 
   releases : (j : ℕ) (p : Phase) (o : Option Line) → slice_get xs j ≡ o → possible m (release_at h j p o) ≡ true → To (Release j p) (touched m.world (release_at h j p o)) (from_release md xs (after_line j) p)
   releases j p None e y = absurd (cc)
-  releases j p (Some x) e y = go (word_is (m.world.word x.seen.loc.0) (word_of h j)) refl
+  releases j p (Some x) e y = go (word_is (m.world.word x.seen.loc.0) (reference_word h j)) refl
     where
-      go : (b : Bool) → word_is (m.world.word x.seen.loc.0) (word_of h j) ≡ b
+      go : (b : Bool) → word_is (m.world.word x.seen.loc.0) (reference_word h j) ≡ b
           → To (Release j p) (record m.world { word = put_some m.world.word x.seen.loc.0 (if b then Some (Plain (resolved_version (first_of x) p) (resolved_value (first_of x) (second_of x).after p)) else None) }) (from_release md xs (after_line j) p)
       go true z = Effects.release s {xs = xs} x _ e (word_same _ h j z) refl (release_unheld (Release j p) md xs (after_line j) p)
       go false z = Effects.skip s {xs = xs} x _ e (word_else _ h j z) refl (release_unheld (Release j p) md xs (after_line j) p)

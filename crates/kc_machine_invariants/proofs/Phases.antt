@@ -17,7 +17,7 @@ use Rattle.kc_machine_invariants.specs.kc_machine_steps.declared.aid.AidStep.The
 use Rattle.kc_machine_invariants.specs.kc_machine_commits.declared.commit.OwnStep.TheVariants as own
 use Rattle.std.specs.Prelude.{slice_get}
 use Rattle.kc_machine_invariants.proofs.kc_machine.Functions.{put_cases}
-use Rattle.kc_machine_invariants.specs.kc_machine.Machine.{World, put}
+use Rattle.kc_machine_invariants.specs.kc_machine.Machine.{World, put_at_index}
 use Rattle.kc_machine_invariants.specs.kc_machine_commits.Commits.{fill_next, fill_or_start, finished, wake_or_drop, wake_next, wake_or_signal, owed_next}
 use Rattle.kc_machine_invariants.specs.kc_machine_commits.Halts.{halted_pass, halted_aid_pass}
 use Rattle.kc_machine_invariants.specs.Effects
@@ -134,14 +134,14 @@ same_life : (h : Handle) (o : Own) (d g : ℕ) → Proper h.descriptor h.generat
 same_life h o d g a b = let c : Proper h.descriptor h.generation ≡ Proper d g = a ∙ b in (cc, cc)
 
 -- an Active status is none that was decided just now
-not_decided : (f : ℕ → Status) (h : Handle) (p : Phase) (d g : ℕ) → SameLife h d g → p ≢ Active → put f h.descriptor (status h.generation p) d ≡ status g Active → ⊥
+not_decided : (f : ℕ → Status) (h : Handle) (p : Phase) (d g : ℕ) → SameLife h d g → p ≢ Active → put_at_index f h.descriptor (status h.generation p) d ≡ status g Active → ⊥
 not_decided f h p d g l n q = n (by (put_cases (λ x. x ≡ status g Active → p ≡ Active) f h.descriptor (status h.generation p) d (λ e x. ap (λ (y : Status). y.phase) x) (λ ne. absurd (ne (sym l.0)))))
   where
-    by : (put f h.descriptor (status h.generation p) d ≡ status g Active → p ≡ Active) → p ≡ Active
+    by : (put_at_index f h.descriptor (status h.generation p) d ≡ status g Active → p ≡ Active) → p ≡ Active
     by r = r q
 
 -- a status that is Active where it was decided just now was Active before
-was_active : (f : ℕ → Status) (h : Handle) (p : Phase) → f h.descriptor ≡ status h.generation Active → (d g : ℕ) → put f h.descriptor (status h.generation p) d ≡ status g Active → f d ≡ status g Active
+was_active : (f : ℕ → Status) (h : Handle) (p : Phase) → f h.descriptor ≡ status h.generation Active → (d g : ℕ) → put_at_index f h.descriptor (status h.generation p) d ≡ status g Active → f d ≡ status g Active
 was_active f h p a d g = put_cases (λ x. x ≡ status g Active → f d ≡ status g Active) f h.descriptor (status h.generation p) d
     (λ e x. ap f e ∙ a ∙ ap (λ (y : Status). status y.generation Active) x)
     (λ ne x. x)
@@ -207,12 +207,12 @@ abbrev pub PassKnows : World → Own → Passing → Type 0
 PassKnows w o x = (d g : ℕ) (p : Phase) → own_hold o ≡ Proper d g → runs o ≡ true → phase_of_pass x ≡ Some p → Decided w d p
 
 -- what is decided stays so where another life is decided
-decided_stays : (f : ℕ → Status) (h : Handle) (p q : Phase) (d : ℕ) → f h.descriptor ≡ status h.generation Active → (f d).phase ≡ q → q ≢ Active → (put f h.descriptor (status h.generation p) d).phase ≡ q
+decided_stays : (f : ℕ → Status) (h : Handle) (p q : Phase) (d : ℕ) → f h.descriptor ≡ status h.generation Active → (f d).phase ≡ q → q ≢ Active → (put_at_index f h.descriptor (status h.generation p) d).phase ≡ q
 decided_stays f h p q d a e n = put_cases (λ x. x.phase ≡ q) f h.descriptor (status h.generation p) d
     (λ y. absurd (n (sym e ∙ ap (λ x. (f x).phase) y ∙ ap (λ (x : Status). x.phase) a)))
     (λ ne. e)
 
-decided_now : (f : ℕ → Status) (h : Handle) (p : Phase) (d : ℕ) → h.descriptor ≡ d → (put f h.descriptor (status h.generation p) d).phase ≡ p
+decided_now : (f : ℕ → Status) (h : Handle) (p : Phase) (d : ℕ) → h.descriptor ≡ d → (put_at_index f h.descriptor (status h.generation p) d).phase ≡ p
 decided_now f h p d e = put_cases (λ x. x.phase ≡ p) f h.descriptor (status h.generation p) d (λ y. refl) (λ ne. absurd (ne (sym e)))
 
 -- unless an owner starts

@@ -7,7 +7,7 @@ use Rattle.kc_machine_invariants.specs.kc_machine.Works as work
 use Rattle.kc_machine_invariants.specs.kc_machine.Waits.{Hang}
 use Rattle.kc_machine_invariants.specs.kc_machine.declared.hang.HangStep.{HangStep}
 use Rattle.kc_machine_invariants.specs.kc_machine.declared.hang.HangStep.TheVariants as hang
-use Rattle.kc_machine_invariants.specs.kc_machine.Machine.{World, Opening, run, opened}
+use Rattle.kc_machine_invariants.specs.kc_machine.Machine.{World, Opening, run, opened_state}
 use Rattle.kc_machine_invariants.proofs.Held.{Fits}
 use Rattle.kc_machine_invariants.proofs.Left.{commit_leaves}
 use Rattle.kc_machine_invariants.proofs.Pools.{Fit, Pool, pool_effect}
@@ -15,10 +15,10 @@ use Rattle.kc_machine_invariants.proofs.Runs.{holds_after}
 use Rattle.kc_machine_invariants.proofs.Sums.{sum_below_none}
 use Rattle.kc_machine_invariants.proofs.Worn.{place}
 use Rattle.kc_machine_invariants.specs.Claims.{HoldsAreCounted, HoldsKeepGenerations, StraysAreOthers, WornScansHold, WornIsTrue}
-use Rattle.kc_machine_invariants.specs.Holds.{Hold, Proper, Stray, Has}
-use Rattle.kc_machine_invariants.specs.Stands.{Stand, stand, works, resting, hangs}
+use Rattle.kc_machine_invariants.specs.Holds.{Hold, Proper, Stray, HasHold}
+use Rattle.kc_machine_invariants.specs.Stands.{Stand, stand, works, resting, stand_hangs}
 
-pub opened_pool : (o : Opening) → Pool o.callers (opened o).descriptors (opened o).world (λ k. stand ((opened o).seats k))
+pub opened_pool : (o : Opening) → Pool o.callers (opened_state o).descriptors (opened_state o).world (λ k. stand ((opened_state o).seats k))
 opened_pool o = record {
   counted = λ d. sum_below_none o.callers;
   fit = λ k l. record { own = tt; check = tt; aid = tt; look = tt };
@@ -29,7 +29,7 @@ opened_pool o = record {
 pub pool_after : (o : Opening) (schedule : List Event) → Pool (run o schedule).callers (run o schedule).descriptors (run o schedule).world (λ k. stand ((run o schedule).seats k))
 pool_after o schedule = holds_after Pool (λ n m k l w v at t e p. pool_effect n m k l at e p) o schedule (opened_pool o)
 
-each_fits : (w : World) (s : Stand) (x : Hold) → Fit w s → Has s x → Fits w x
+each_fits : (w : World) (s : Stand) (x : Hold) → Fit w s → HasHold s x → Fits w x
 each_fits w s x f h = ⊎_elim (λ q. subst (Fits w) q f.own) (λ a. ⊎_elim (λ q. subst (Fits w) q f.check) (λ b. ⊎_elim (λ q. subst (Fits w) q f.aid) (λ q. subst (Fits w) q f.look) b) a) h
 
 pub holds_counted : (o : Opening) (schedule : List Event) → HoldsAreCounted (run o schedule)
@@ -45,7 +45,7 @@ strays_kept o schedule = λ k d g l h. let r = pool_after o schedule in each_fit
 same_told : (s : Seat) → (stand s).told ≡ s.told
 same_told s = go s.work
   where
-    hung : (t : Stand) (h : Hang) (step : HangStep) → (hangs t h.reads.items step).told ≡ t.told
+    hung : (t : Stand) (h : Hang) (step : HangStep) → (stand_hangs t h.reads.items step).told ≡ t.told
     hung t h (hang.Set j) = refl
     hung t h (hang.Look j step) = refl
     hung t h (hang.Clear j n) = refl

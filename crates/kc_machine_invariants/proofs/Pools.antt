@@ -1,7 +1,7 @@
 -- The facts of the pool, which each effect keeps.
 use Rattle.std.proofs.Common.{◌≡◌, ℕ, ◌<◌, ◌≤◌, arith}
 use Rattle.kc_machine_invariants.proofs.kc_machine.Functions.{put_cases}
-use Rattle.kc_machine_invariants.specs.kc_machine.Machine.{World, put}
+use Rattle.kc_machine_invariants.specs.kc_machine.Machine.{World, put_at_index}
 use Rattle.kc_machine_invariants.proofs.Counted.{balance}
 use Rattle.kc_machine_invariants.proofs.Held.{Fits, kept, own_fits, check_fits, aid_fits, look_fits}
 use Rattle.kc_machine_invariants.proofs.Sums.{sum_below_put, sum_below_part}
@@ -66,7 +66,7 @@ pub record Pool (n m : ℕ) (w : World) (at : ℕ → Stand) : Type 0 where
   pub fit : (k : ℕ) → k < n → Fit w (at k)
   pub search : (k : ℕ) → k < n → Search m w (at k)
 
-pub pool_effect : (n m k : ℕ) → k < n → {w w' : World} (at : ℕ → Stand) {s' : Stand} → Effect k w (at k) w' s' → Pool n m w at → Pool n m w' (put at k s')
+pub pool_effect : (n m k : ℕ) → k < n → {w w' : World} (at : ℕ → Stand) {s' : Stand} → Effect k w (at k) w' s' → Pool n m w at → Pool n m w' (put_at_index at k s')
 pool_effect n m k l {w} {w'} at {s'} e p = record {
   counted = λ d.
       let b = balance k e (λ i. enough k i l) d in

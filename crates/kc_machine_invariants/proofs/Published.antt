@@ -12,7 +12,7 @@ use Rattle.kc_machine_invariants.specs.kc_machine_steps.declared.pass.PassStep.T
 use Rattle.kc_machine_invariants.specs.kc_machine_steps.declared.aid.AidStep.TheVariants as aid
 use Rattle.kc_machine_invariants.specs.kc_machine_steps.declared.aid.AidNext.TheVariants as aiding
 use Rattle.kc_machine_invariants.proofs.kc_machine.Functions.{put_here, put_cases}
-use Rattle.kc_machine_invariants.specs.kc_machine.Machine.{World, put}
+use Rattle.kc_machine_invariants.specs.kc_machine.Machine.{World, put_at_index}
 use Rattle.kc_machine_invariants.specs.Effects
 use Rattle.kc_machine_invariants.specs.Holds.{Proper, dropping, check_hold, aid_hold, look_hold}
 use Rattle.kc_machine_invariants.specs.Stands.{Stand, At, Meets, Ends, Leaves, Passing, NoPass, Over, Aiding, NoAid, Aids, Passes, Looking, NoLook, Looks}
@@ -20,7 +20,7 @@ use Rattle.kc_machine_invariants.proofs.Shapes.{pass_life}
 use Rattle.kc_machine_invariants.proofs.Statuses.{Owned, status_moves}
 use Rattle.kc_machine_invariants.specs.Owners.{Follows}
 use Rattle.kc_machine_invariants.specs.References.{met_by_pass, met_by_aid, met_by_look, IsPublished}
-use Rattle.kc_machine_invariants.specs.kc_machine_steps.Lines.{word_of}
+use Rattle.kc_machine_invariants.specs.kc_machine_steps.Lines.{reference_word}
 use Rattle.kc_machine_invariants.specs.kc_machine_steps.Passes.{status}
 
 abbrev pub Words : World → Type 0
@@ -57,17 +57,17 @@ here_out w a b d g q h =
 
 -- ---- the words
 
-word_out : (w : World) (h : Handle) (j : ℕ) → IsPublished w h.descriptor h.generation → (g d i : ℕ) → word_of h j ≡ Ref g d i → IsPublished w d g
+word_out : (w : World) (h : Handle) (j : ℕ) → IsPublished w h.descriptor h.generation → (g d i : ℕ) → reference_word h j ≡ Ref g d i → IsPublished w d g
 word_out w h j p g d i q =
     let x : h.descriptor ≡ d = cc in
     let y : h.generation ≡ g = cc in
     subst (λ i. IsPublished w i g) x (subst (λ i. IsPublished w h.descriptor i) y p)
 
-words_put : (w : World) (at : ℕ) (x : Word) → Words w → ((g d j : ℕ) → x ≡ Ref g d j → IsPublished w d g) → (l g d j : ℕ) → put w.word at x l ≡ Ref g d j → IsPublished w d g
+words_put : (w : World) (at : ℕ) (x : Word) → Words w → ((g d j : ℕ) → x ≡ Ref g d j → IsPublished w d g) → (l g d j : ℕ) → put_at_index w.word at x l ≡ Ref g d j → IsPublished w d g
 words_put w at x h n l g d j = put_cases (λ y. y ≡ Ref g d j → IsPublished w d g) w.word at x l (λ e. n g d j) (λ ne. h l g d j)
 
 pub words_own : (k : ℕ) {w w' : World} {s s' : Stand} → Effects.Effect k w s w' s' → LifeOut w s.pass → Words w → (l g d j : ℕ) → w'.word l ≡ Ref g d j → IsPublished w d g
-words_own k (Effects.install {w} s {h = i} {j = n} x q a b e z put_in low) p h l g d j = words_put w x.seen.loc.0 (word_of i n) h (λ g' d' j'. word_out w i n (p i.descriptor i.generation refl) g' d' j') l g d j
+words_own k (Effects.install {w} s {h = i} {j = n} x q a b e z put_in low) p h l g d j = words_put w x.seen.loc.0 (reference_word i n) h (λ g' d' j'. word_out w i n (p i.descriptor i.generation refl) g' d' j') l g d j
 words_own k (Effects.release {w} s x t a b e z) p h l g d j = words_put w x.seen.loc.0 _ h (λ g' d' j' q. absurd (cc)) l g d j
 words_own k (Effects.aid_release {w} s {x = x} a) p h l g d j = words_put w x.seen.loc.0 _ h (λ g' d' j' q. absurd (cc)) l g d j
 words_own k (Effects.swap_takes {w} s {r} {after} a b) p h l g d j = words_put w r.loc.0 (word_after r after) h (λ g' d' j' q. absurd (cc)) l g d j
@@ -76,7 +76,7 @@ words_own k _ p h l g d j = h l g d j
 -- ---- the life that a pass goes over
 
 pub life_own : (k : ℕ) {w w' : World} {s s' : Stand} → Effects.Effect k w s w' s' → Owned w s.own → Out w (met_by_aid s.aid) → LifeOut w s.pass → LifeOut w' s'.pass
-life_own k (Effects.start {w} s {h = i} q e z) o a h d g y = here_out (record w { status = put w.status i.descriptor (status i.generation Active) }) i.descriptor i.generation d g y (rw (put_here w.status i.descriptor (status i.generation Active)) (omega arith))
+life_own k (Effects.start {w} s {h = i} q e z) o a h d g y = here_out (record w { status = put_at_index w.status i.descriptor (status i.generation Active) }) i.descriptor i.generation d g y (rw (put_here w.status i.descriptor (status i.generation Active)) (omega arith))
 life_own k (Effects.abandon {w} s stopped) o a h d g y = absurd (cc)
 life_own k (Effects.drop {w} s p) o a h d g y = absurd (cc)
 life_own k (Effects.own_meets {w} s c) o a h d g y = absurd (cc)

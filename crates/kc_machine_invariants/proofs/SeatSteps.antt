@@ -11,7 +11,7 @@ use Rattle.kc_machine_invariants.specs.kc_machine_steps.declared.look.LookStep.T
 use Rattle.kc_machine_invariants.specs.kc_machine_steps.declared.look.LookNext.{LookNext}
 use Rattle.kc_machine_invariants.specs.kc_machine_steps.declared.look.LookNext.TheVariants as looking
 use Rattle.kc_machine_invariants.specs.kc_machine_steps.Swaps.{swaps_on}
-use Rattle.kc_machine_invariants.specs.kc_machine_steps.Swaps.{onward_of as onward_of_swap}
+use Rattle.kc_machine_invariants.specs.kc_machine_steps.Swaps.{onward_of_swap}
 use Rattle.kc_machine_invariants.specs.kc_machine_steps.declared.swap.Swap.{Swap}
 use Rattle.kc_machine_invariants.specs.kc_machine_steps.declared.swap.SwapNext.{SwapNext}
 use Rattle.kc_machine_invariants.specs.kc_machine_steps.declared.swap.SwapNext.TheVariants as swapping
@@ -26,7 +26,7 @@ use Rattle.kc_machine_invariants.specs.kc_machine.Works.{Work}
 use Rattle.kc_machine_invariants.specs.kc_machine.Works as work
 use Rattle.kc_machine_invariants.specs.kc_machine.Hangs.{hangs_on, onward_of, leaves_on, unblocks_or_tells}
 use Rattle.kc_machine_invariants.specs.kc_machine.Machine.{State, World, touched, found_at, possible}
-use Rattle.kc_machine_invariants.specs.kc_machine.Seats.{access_of, work_access, answer_of, answer_by, after, begun, begun_idle, is_idle, working}
+use Rattle.kc_machine_invariants.specs.kc_machine.Seats.{access_of, work_access, seat_answered, answer_by, seat_after, begun, begun_idle, is_idle, working}
 use Rattle.kc_machine_invariants.specs.kc_machine.Seats.{hanging as hanging_of}
 use Rattle.kc_machine_invariants.specs.kc_machine.declared.seat.Seat.{Seat}
 use Rattle.kc_machine_invariants.specs.kc_machine_commits.Commits.{gone_on, onward_by}
@@ -46,25 +46,25 @@ use Rattle.kc_machine_invariants.specs.kc_machine_steps.Looks.{look_access, look
 module _ (k : ℕ) (m : State) (s : Seat) where
   -- what follows is how the seat stands
   look_gone : (v : World) (l : Look) (n : LookNext) (b : Bool) → l.halted ≡ b → (b ≡ true → look_hold (Looks l.loc n) ≡ NoHold)
-      → Path k v (record (resting s) { halted = l.halted; look = Looks l.loc n }) v (stand (after (record s { work = work.Look (looks_on l n) }) (told_by b n)))
+      → Path k v (record (resting s) { halted = l.halted; look = Looks l.loc n }) v (stand (seat_after (record s { work = work.Look (looks_on l n) }) (told_by b n)))
   look_gone v l n true e z = onward (Effects.look_halts (resting s) (z refl)) stay
   look_gone v l (looking.Goes step) false e z = stay
   look_gone v l (looking.Saw seen) false e z = onward (Effects.look_ends (resting s) e) stay
 
-  commit_gone : (c : Commit) (n : Next) → next_commit (resting s) c n ≡ stand (after (record s { work = work.Commit (gone_on c n) }) (onward_by n))
+  commit_gone : (c : Commit) (n : Next) → next_commit (resting s) c n ≡ stand (seat_after (record s { work = work.Commit (gone_on c n) }) (onward_by n))
   commit_gone c (next.Goes x) = refl
   commit_gone c (next.Takes x) = refl
   commit_gone c (next.Tells t) = refl
 
-  hang_gone : (h : Hang) (n : HangNext) → next_hang (resting s) h.reads.items n ≡ stand (after (record s { work = work.Hang (hangs_on h n) }) (onward_of n))
+  hang_gone : (h : Hang) (n : HangNext) → next_hang (resting s) h.reads.items n ≡ stand (seat_after (record s { work = work.Hang (hangs_on h n) }) (onward_of n))
   hang_gone h (hanging.Goes x) = refl
   hang_gone h (hanging.Tells t) = refl
 
-  leave_gone : (l : Leave) (j : ℕ) (o : Option Seen) → leaves (resting s) l.reads.items j o ≡ stand (after (record s { work = work.Leave (leaves_on l j o) }) (unblocks_or_tells o))
+  leave_gone : (l : Leave) (j : ℕ) (o : Option Seen) → leaves (resting s) l.reads.items j o ≡ stand (seat_after (record s { work = work.Leave (leaves_on l j o) }) (unblocks_or_tells o))
   leave_gone l j None = refl
   leave_gone l j (Some x) = refl
 
-  swap_gone : (x : Swap) (n : SwapNext) → next_swap (resting s) x.seen x.after n ≡ stand (after (record s { work = work.Swap (swaps_on x n) }) (onward_of_swap n))
+  swap_gone : (x : Swap) (n : SwapNext) → next_swap (resting s) x.seen x.after n ≡ stand (seat_after (record s { work = work.Swap (swaps_on x n) }) (onward_of_swap n))
   swap_gone x (swapping.Goes step) = refl
   swap_gone x (swapping.Takes step) = refl
   swap_gone x (swapping.Tells t) = refl
@@ -94,7 +94,7 @@ module _ (k : ℕ) (m : State) (s : Seat) where
   work_steps (work.Swap x) w f y = path_to k (swap_gone x _) (swap_steps k m (resting s) x.seen x.after x.step y)
 
   -- the effects of a step
-  pub step_path : FitsAndFormed s → possible m (access_of s) ≡ true → Path k m.world (stand s) (touched m.world (access_of s)) (stand (answer_of s (found_at m.world (access_of s))))
+  pub step_path : FitsAndFormed s → possible m (access_of s) ≡ true → Path k m.world (stand s) (touched m.world (access_of s)) (stand (seat_answered s (found_at m.world (access_of s))))
   step_path f y = work_steps s.work f.0 f.1 y
 
 module _ (k : ℕ) (w : World) (s : Seat) where

@@ -30,7 +30,7 @@ use Rattle.kc_machine.specs.Works.{Work}
 use Rattle.kc_machine.specs.Works as work
 use Rattle.kc_machine.specs.Hangs.{hang_step, hangs_on, hang_onward, onward_of, leaves_on, leave_onward, unblocks_or_tells, next_read}
 use Rattle.kc_machine.specs.Machine.{Opening, run, pool_size}
-use Rattle.kc_machine.specs.Seats.{answer_of, answer_by, after, begun, begun_idle, is_idle, working, halted, halted_by, ended}
+use Rattle.kc_machine.specs.Seats.{seat_answered, answer_by, seat_after, begun, begun_idle, is_idle, working, halted, halted_by, seat_halted}
 use Rattle.kc_machine.specs.Seats.{hanging as hanging_of}
 use Rattle.kc_machine.specs.declared.seat.Seat.{Seat}
 use Rattle.kc_machine.specs.kc_machine_commits.Commits.{after_scan, scan_next, take_next, stage_next, tells_or_goes, loaded, gone_on, onward_by, commit_next, commit_onward}
@@ -38,7 +38,7 @@ use Rattle.kc_machine.specs.kc_machine_commits.Halts.{unowned, halted_at}
 use Rattle.kc_machine_invariants.proofs.Always.{always, any_event, all_any}
 use Rattle.kc_machine_invariants.specs.Seated.{IsSeat, SeatsStay, StageSearches, WorkSearches, SearchesAreInRange}
 use Rattle.kc_machine.specs.kc_machine_steps.Swaps.{swap_next, swaps_on, ends_at_once}
-use Rattle.kc_machine.specs.kc_machine_steps.Swaps.{onward_of as onward_of_swap}
+use Rattle.kc_machine.specs.kc_machine_steps.Swaps.{onward_of_swap}
 use Rattle.kc_machine.specs.kc_machine_steps.declared.swap.Swap.{Swap}
 use Rattle.kc_machine.specs.kc_machine_steps.declared.swap.SwapNext.{SwapNext}
 use Rattle.kc_machine.specs.kc_machine_steps.declared.swap.SwapNext.TheVariants as swapping
@@ -47,13 +47,13 @@ use Rattle.kc_machine.specs.kc_machine_steps.Looks.{look_next, look_tells, look_
 -- ---- what stays
 
 module _ (n k : ℕ) (s : Seat) (is : IsSeat n k s) where
-  after_stays : (x : Work) (o : Onward) → IsSeat n k (after (record s { work = x }) o)
+  after_stays : (x : Work) (o : Onward) → IsSeat n k (seat_after (record s { work = x }) o)
   after_stays x onward.Goes = is
   after_stays x onward.Takes = is
   after_stays x onward.Unblocks = is
   after_stays x (onward.Tells t) = is
 
-  answer_stays : (f : Found) → IsSeat n k (answer_of s f)
+  answer_stays : (f : Found) → IsSeat n k (seat_answered s f)
   answer_stays f = go s.work
     where
       go : (x : Work) → IsSeat n k (answer_by s f x)
@@ -85,11 +85,11 @@ module _ (n k : ℕ) (s : Seat) (is : IsSeat n k s) where
   halted_stays : IsSeat n k (halted s)
   halted_stays = go s.work
     where
-      ends : (b : Bool) (x : Work) → IsSeat n k (if b then ended s else record s { work = x })
+      ends : (b : Bool) (x : Work) → IsSeat n k (if b then seat_halted s else record s { work = x })
       ends true x = is
       ends false x = is
 
-      swaps : (b : Bool) → IsSeat n k (if b then ended s else s)
+      swaps : (b : Bool) → IsSeat n k (if b then seat_halted s else s)
       swaps true = is
       swaps false = is
 
@@ -153,30 +153,30 @@ module _ (n : ℕ) where
   stage_searches calls c (Own h step) f y = tells calls c h step f
 
   module _ (s : Seat) (is : s.descriptors ≡ n) where
-    commit_answers : (c : Commit) (x : Next) → NextSearches x → WorkSearches n (after (record s { work = work.Commit (gone_on c x) }) (onward_by x)).work
+    commit_answers : (c : Commit) (x : Next) → NextSearches x → WorkSearches n (seat_after (record s { work = work.Commit (gone_on c x) }) (onward_by x)).work
     commit_answers c (next.Goes x) y = y
     commit_answers c (next.Takes x) y = y
     commit_answers c (next.Tells t) y = tt
 
-    look_answers : (l : Look) (b : Bool) (x : LookNext) → WorkSearches n (after (record s { work = work.Look (looks_on l x) }) (told_by b x)).work
+    look_answers : (l : Look) (b : Bool) (x : LookNext) → WorkSearches n (seat_after (record s { work = work.Look (looks_on l x) }) (told_by b x)).work
     look_answers l true x = tt
     look_answers l false (looking.Goes step) = tt
     look_answers l false (looking.Saw seen) = tt
 
-    hang_answers : (h : Hang) (x : HangNext) → WorkSearches n (after (record s { work = work.Hang (hangs_on h x) }) (onward_of x)).work
+    hang_answers : (h : Hang) (x : HangNext) → WorkSearches n (seat_after (record s { work = work.Hang (hangs_on h x) }) (onward_of x)).work
     hang_answers h (hanging.Goes x) = tt
     hang_answers h (hanging.Tells t) = tt
 
-    leave_answers : (l : Leave) (j : ℕ) (o : Option Seen) → WorkSearches n (after (record s { work = work.Leave (leaves_on l j o) }) (unblocks_or_tells o)).work
+    leave_answers : (l : Leave) (j : ℕ) (o : Option Seen) → WorkSearches n (seat_after (record s { work = work.Leave (leaves_on l j o) }) (unblocks_or_tells o)).work
     leave_answers l j None = tt
     leave_answers l j (Some x) = tt
 
-    swap_answers : (x : Swap) (m : SwapNext) → WorkSearches n (after (record s { work = work.Swap (swaps_on x m) }) (onward_of_swap m)).work
+    swap_answers : (x : Swap) (m : SwapNext) → WorkSearches n (seat_after (record s { work = work.Swap (swaps_on x m) }) (onward_of_swap m)).work
     swap_answers x (swapping.Goes step) = tt
     swap_answers x (swapping.Takes step) = tt
     swap_answers x (swapping.Tells t) = tt
 
-    answer_searches : (f : Found) → WorkSearches n s.work → WorkSearches n (answer_of s f).work
+    answer_searches : (f : Found) → WorkSearches n s.work → WorkSearches n (seat_answered s f).work
     answer_searches f y = go s.work y
       where
         go : (x : Work) → WorkSearches n x → WorkSearches n (answer_by s f x).work
@@ -208,15 +208,15 @@ module _ (n : ℕ) where
     halted_searches : WorkSearches n s.work → WorkSearches n (halted s).work
     halted_searches y = go s.work
       where
-        looks : (b : Bool) (l : Look) → WorkSearches n (if b then ended s else record s { work = work.Look (look_halted l) }).work
+        looks : (b : Bool) (l : Look) → WorkSearches n (if b then seat_halted s else record s { work = work.Look (look_halted l) }).work
         looks true l = tt
         looks false l = tt
 
-        swaps : (b : Bool) → WorkSearches n (if b then ended s else s).work
+        swaps : (b : Bool) → WorkSearches n (if b then seat_halted s else s).work
         swaps true = tt
         swaps false = y
 
-        commits : (c : Commit) (x : Stage) → WorkSearches n (if unowned x then ended s else record s { work = work.Commit (halted_at c x) }).work
+        commits : (c : Commit) (x : Stage) → WorkSearches n (if unowned x then seat_halted s else record s { work = work.Commit (halted_at c x) }).work
         commits c (Scan d worn) = tt
         commits c (Take d g) = tt
         commits c (Own h step) = tt
@@ -236,7 +236,7 @@ module _ (n k : ℕ) (s : Seat) (y : Seated n k s) where
   begins_below : 3 * k < n → s.first < n
   begins_below l = let e = y.0.2 in omega arith
 
-  answer_seated : (f : Found) → Seated n k (answer_of s f)
+  answer_seated : (f : Found) → Seated n k (seat_answered s f)
   answer_seated f = (answer_stays n k s y.0 f, λ l. answer_searches n s y.0.1 f (y.1 l))
 
   begun_seated : (t : Task) → Seated n k (begun s t)

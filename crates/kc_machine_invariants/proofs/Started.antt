@@ -44,33 +44,33 @@ use Rattle.kc_machine_invariants.specs.kc_machine.Works.{Work}
 use Rattle.kc_machine_invariants.specs.kc_machine.Works as work
 use Rattle.kc_machine_invariants.proofs.kc_machine.Functions.{put_cases}
 use Rattle.kc_machine_invariants.specs.kc_machine.Hangs.{hang_access_of, leave_access_at, clear_access, read_of}
-use Rattle.kc_machine_invariants.specs.kc_machine.Machine.{World, State, Opening, put, put_some, touched, found_at, possible, stepped, happened, event_of, seat_of, run_from, run, opened}
+use Rattle.kc_machine_invariants.specs.kc_machine.Machine.{World, State, Opening, put_at_index, put_some, touched, found_at, possible, stepped, happened, event_of, seat_of, run_from, run, opened_state}
 use Rattle.kc_machine_invariants.specs.kc_machine.Schedules.{BeginsWellMade, IsSchedule}
-use Rattle.kc_machine_invariants.specs.kc_machine.Seats.{work_access, access_of, answer_of}
+use Rattle.kc_machine_invariants.specs.kc_machine.Seats.{work_access, access_of, seat_answered}
 use Rattle.kc_machine_invariants.specs.kc_machine.Words.{control, gripped, status_is}
 use Rattle.kc_machine_invariants.specs.kc_machine.declared.seat.Seat.{Seat}
 use Rattle.kc_machine_invariants.specs.kc_machine_commits.Commits.{own_access, stage_access, fill_first, fill_second, wake_access}
 use Rattle.kc_machine_invariants.proofs.PoolLaws.{holds_kept}
 use Rattle.kc_machine_invariants.proofs.Tests.{status_active}
 use Rattle.kc_machine_invariants.specs.Holds.{Proper, own_hold}
-use Rattle.kc_machine_invariants.specs.Stands.{Stand, resting, works, commits, owns}
+use Rattle.kc_machine_invariants.specs.Stands.{Stand, resting, works, stand_commits, owns}
 use Rattle.kc_machine_invariants.proofs.LifeLaws.{lives_after}
 use Rattle.kc_machine_invariants.proofs.Statuses.{Owned, decision_keeps}
-use Rattle.kc_machine_invariants.specs.Filled.{owner_word, Filled}
+use Rattle.kc_machine_invariants.specs.Filled.{owner_word, OwnedIsFilled}
 use Rattle.kc_machine_invariants.specs.Started.{listed, line_of_words, intent_of_words, IsStarted, StartedWordsAreWellMade}
 use Rattle.kc_machine_invariants.proofs.MadeSteps.{intents_made}
 use Rattle.kc_machine_invariants.specs.Made.{IsWellMadeIntent, IsWellMadeLine, IntentIsMade}
 use Rattle.kc_machine_invariants.specs.kc_machine_steps.Aids.{aid_access}
-use Rattle.kc_machine_invariants.specs.kc_machine_steps.Lines.{first_of, second_of, joined}
+use Rattle.kc_machine_invariants.specs.kc_machine_steps.Lines.{first_of, second_of, line_of_halves}
 use Rattle.kc_machine_invariants.specs.kc_machine_steps.Looks.{look_access}
 use Rattle.kc_machine_invariants.specs.kc_machine_steps.Passes.{pass_access, install_access, check_access, release_at, status}
 
 -- ---- what the words of an intent say
 
-pub line_again : (x : Line) → joined (first_of x) (second_of x) ≡ x
+pub line_again : (x : Line) → line_of_halves (first_of x) (second_of x) ≡ x
 line_again x = go x.seen x.put
   where
-    go : (r : Seen) (p : Option ℕ) → joined (first_of (record { seen = r; put = p })) (second_of (record { seen = r; put = p })) ≡ record { seen = r; put = p }
+    go : (r : Seen) (p : Option ℕ) → line_of_halves (first_of (record { seen = r; put = p })) (second_of (record { seen = r; put = p })) ≡ record { seen = r; put = p }
     go r None = refl
     go r (Some y) = refl
 
@@ -88,13 +88,13 @@ module _ (n : ℕ) where
       → ((j : ℕ) (x : Line) → slice_get i.lines.items j ≡ Some x → w.second d j ≡ second_of x)
       → IsWellMadeIntent n i → IsWellMadeIntent n (intent_of_words w d)
   says_made w d caller calls i o f s y =
-      let xs = lists_again (line_of_words w d) i.lines.items (λ j x q. ap (λ a. joined a (w.second d j)) (f j x q) ∙ ap (joined (first_of x)) (s j x q) ∙ line_again x) in
+      let xs = lists_again (line_of_words w d) i.lines.items (λ j x q. ap (λ a. line_of_halves a (w.second d j)) (f j x q) ∙ ap (line_of_halves (first_of x)) (s j x q) ∙ line_again x) in
       subst (λ (a : Owner). IsWellMadeIntent n (record { mode = a.mode; lines = record { items = listed (line_of_words w d) a.lines } })) (sym o)
       (subst (λ ys. IsWellMadeIntent n (record { mode = i.mode; lines = record { items = ys } })) (sym xs) y)
 
   -- ---- one access
 
-  put_grows : (f : ℕ → Control) (d : ℕ) (c : Control) (e : ℕ) → (f d).generation ≤ c.generation → (f e).generation ≤ (put f d c e).generation
+  put_grows : (f : ℕ → Control) (d : ℕ) (c : Control) (e : ℕ) → (f d).generation ≤ c.generation → (f e).generation ≤ (put_at_index f d c e).generation
   put_grows f d c e h = put_cases (λ (x : Control). (f e).generation ≤ x.generation) f d c e (λ q. subst (λ j. (f j).generation ≤ c.generation) (sym q) h) (λ ne. omega arith)
 
   -- no generation comes back
@@ -203,7 +203,7 @@ module _ (n : ℕ) where
         abbrev At : OwnStep → Stand
         At step = owns (record (resting s) { halted = c.halted }) c.intent c.copy h step
 
-        own_made : (step : OwnStep) → Owned w (At step).own → Level (At step) → Filled w (At step) → IsWellMadeIntent n c.intent → Made (touched w (own_access s.caller s.calls c h step))
+        own_made : (step : OwnStep) → Owned w (At step).own → Level (At step) → OwnedIsFilled w (At step) → IsWellMadeIntent n c.intent → Made (touched w (own_access s.caller s.calls c h step))
         own_made own.FillOwner o v l y = λ d. put_cases (λ (x : Owner). IsStarted w d → IsWellMadeIntent n (record { mode = x.mode; lines = record { items = listed (line_of_words w d) x.lines } })) w.owner h.descriptor (owner_word s.caller s.calls c.intent) d
             (λ q z. absurd (unstarted h.descriptor d h.generation q (o h.descriptor h.generation refl) (v h.descriptor h.generation refl) z))
             (λ ne. f d)
@@ -211,14 +211,14 @@ module _ (n : ℕ) where
           where
             go : (x : Option Line) → Made (touched w (fill_first h.descriptor j x))
             go None = f
-            go (Some x) = λ d. put_cases (λ (a : ℕ → First). IsStarted w d → IsWellMadeIntent n (record { mode = (w.owner d).mode; lines = record { items = listed (λ i. joined (a i) (w.second d i)) (w.owner d).lines } })) w.first h.descriptor (put (w.first h.descriptor) j (first_of x)) d
+            go (Some x) = λ d. put_cases (λ (a : ℕ → First). IsStarted w d → IsWellMadeIntent n (record { mode = (w.owner d).mode; lines = record { items = listed (λ i. line_of_halves (a i) (w.second d i)) (w.owner d).lines } })) w.first h.descriptor (put_at_index (w.first h.descriptor) j (first_of x)) d
                 (λ q z. absurd (unstarted h.descriptor d h.generation q (o h.descriptor h.generation refl) (v h.descriptor h.generation refl) z))
                 (λ ne. f d)
         own_made (own.FillSecond j) o v l y = go (slice_get c.intent.lines.items j)
           where
             go : (x : Option Line) → Made (touched w (fill_second h.descriptor j x))
             go None = f
-            go (Some x) = λ d. put_cases (λ (a : ℕ → Second). IsStarted w d → IsWellMadeIntent n (record { mode = (w.owner d).mode; lines = record { items = listed (λ i. joined (w.first d i) (a i)) (w.owner d).lines } })) w.second h.descriptor (put (w.second h.descriptor) j (second_of x)) d
+            go (Some x) = λ d. put_cases (λ (a : ℕ → Second). IsStarted w d → IsWellMadeIntent n (record { mode = (w.owner d).mode; lines = record { items = listed (λ i. line_of_halves (w.first d i) (a i)) (w.owner d).lines } })) w.second h.descriptor (put_at_index (w.second h.descriptor) j (second_of x)) d
                 (λ q z. absurd (unstarted h.descriptor d h.generation q (o h.descriptor h.generation refl) (v h.descriptor h.generation refl) z))
                 (λ ne. f d)
         own_made own.Start o v l y = λ d. put_cases (λ (x : Status). x.generation ≡ (w.control d).generation → IsWellMadeIntent n (intent_of_words w d)) w.status h.descriptor (status h.generation Active) d
@@ -236,13 +236,13 @@ module _ (n : ℕ) where
         own_made (own.Signal owed) o v l y = f
         own_made (own.Drop p) o v l y = grip_made h.descriptor grip.Subtract
 
-      stage_made : (c : Commit) (x : Stage) → Owned w (commits (record (resting s) { halted = c.halted }) c.intent c.copy x).own → Level (commits (record (resting s) { halted = c.halted }) c.intent c.copy x)
-          → Filled w (commits (record (resting s) { halted = c.halted }) c.intent c.copy x) → IsWellMadeIntent n c.intent → Made (touched w (stage_access s.caller s.calls c x))
+      stage_made : (c : Commit) (x : Stage) → Owned w (stand_commits (record (resting s) { halted = c.halted }) c.intent c.copy x).own → Level (stand_commits (record (resting s) { halted = c.halted }) c.intent c.copy x)
+          → OwnedIsFilled w (stand_commits (record (resting s) { halted = c.halted }) c.intent c.copy x) → IsWellMadeIntent n c.intent → Made (touched w (stage_access s.caller s.calls c x))
       stage_made c (Scan d worn) o v l y = grip_made d grip.Load
       stage_made c (Take d g) o v l y = grip_made d (grip.Take g)
       stage_made c (Own h step) o v l y = own_made c h step o v l y
 
-      work_made : (x : Work) → Owned w (works (resting s) x).own → Level (works (resting s) x) → Filled w (works (resting s) x) → IntentIsMade n x → Made (touched w (work_access s.caller s.calls x))
+      work_made : (x : Work) → Owned w (works (resting s) x).own → Level (works (resting s) x) → OwnedIsFilled w (works (resting s) x) → IntentIsMade n x → Made (touched w (work_access s.caller s.calls x))
       work_made work.Idle o v l y = f
       work_made (work.Look a) o v l y = look_made a.loc a.step
       work_made (work.Commit c) o v l y = stage_made c c.stage o v l y
@@ -264,7 +264,7 @@ module _ (o : Opening) where
   step_made : (es : List Event) → IsSchedule o es → (k : ℕ) → k < (run o es).callers → WordsMade (run o es) → WordsMade (stepped (run o es) k)
   step_made es c k l f = go (possible (run o es) (access_of ((run o es).seats k)))
     where
-      go : (b : Bool) → WordsMade (if b then record (run o es) { world = touched (run o es).world (access_of ((run o es).seats k)); seats = put (run o es).seats k (answer_of ((run o es).seats k) (found_at (run o es).world (access_of ((run o es).seats k)))) } else run o es)
+      go : (b : Bool) → WordsMade (if b then record (run o es) { world = touched (run o es).world (access_of ((run o es).seats k)); seats = put_at_index (run o es).seats k (seat_answered ((run o es).seats k) (found_at (run o es).world (access_of ((run o es).seats k)))) } else run o es)
       go true =
           let r = lives_after o es in
           let s = (run o es).seats k in
@@ -291,12 +291,12 @@ module _ (o : Opening) where
   run_made : (done coming : List Event) → IsSchedule o done → All (BeginsWellMade o.locations) coming → WordsMade (run o done) → WordsMade (run_from (run o done) coming)
   run_made done [] c a f = f
   run_made done (e ∷ es) c a f =
-      let p = run_push (opened o) done e in
+      let p = run_push (opened_state o) done e in
       let b : IsSchedule o (done ++ e ∷ []) = (c.0, All-push (BeginsWellMade o.locations) done e c.1 (All-head (BeginsWellMade o.locations) e es a)) in
       subst (λ m. WordsMade (run_from m es)) p
       (run_made (done ++ e ∷ []) es b (All-tail (BeginsWellMade o.locations) e es a) (subst WordsMade (sym p) (event_made done c e f)))
 
-  opened_made : WordsMade (opened o)
+  opened_made : WordsMade (opened_state o)
   opened_made d q = record { rise = tt; lines = All-nil (IsWellMadeLine o.locations); most = omega arith }
 
 pub started_made : (o : Opening) (schedule : List Event) → IsSchedule o schedule → StartedWordsAreWellMade o (run o schedule)

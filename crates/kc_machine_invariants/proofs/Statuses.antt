@@ -13,7 +13,7 @@ use Rattle.kc_machine_invariants.specs.kc_machine_commits.declared.commit.OwnSte
 use Rattle.kc_machine_invariants.specs.kc_machine_steps.declared.aid.AidStep.{AidStep}
 use Rattle.kc_machine_invariants.specs.kc_machine_commits.declared.commit.OwnStep.TheVariants as own
 use Rattle.kc_machine_invariants.proofs.kc_machine.Functions.{put_cases}
-use Rattle.kc_machine_invariants.specs.kc_machine.Machine.{World, put}
+use Rattle.kc_machine_invariants.specs.kc_machine.Machine.{World, put_at_index}
 use Rattle.kc_machine_invariants.specs.kc_machine_commits.Commits.{fill_next, fill_or_start, finished, wake_or_drop, wake_next, wake_or_signal, owed_next}
 use Rattle.kc_machine_invariants.specs.kc_machine_commits.Halts.{halted_own, halted_aid, aid_or_decide}
 use Rattle.kc_machine_invariants.proofs.Counted.{cells}
@@ -77,7 +77,7 @@ wake_started i j owed callers = go _ (next_line Put i.mode i.lines.items _)
 -- ---- statuses
 
 -- a decision keeps the generation
-pub decision_keeps : (f : ℕ → Status) (h : Handle) (p : Phase) → f h.descriptor ≡ status h.generation Active → (d : ℕ) → (f d).generation ≡ (put f h.descriptor (status h.generation p) d).generation
+pub decision_keeps : (f : ℕ → Status) (h : Handle) (p : Phase) → f h.descriptor ≡ status h.generation Active → (d : ℕ) → (f d).generation ≡ (put_at_index f h.descriptor (status h.generation p) d).generation
 decision_keeps f h p a d = grind cells
 
 -- the seat fills (d, g)

@@ -10,7 +10,7 @@ use Rattle.kc_machine_invariants.specs.Effects
 use Rattle.kc_machine_invariants.specs.Effects.{Path, stay, onward}
 use Rattle.kc_machine_invariants.specs.Stands.{Stand, Swaps, idle}
 use Rattle.kc_machine_invariants.specs.kc_machine_steps.Lines.{one_more}
-use Rattle.kc_machine_invariants.specs.kc_machine_steps.Swaps.{may_swap, seen_word, word_after, exchange, exchange_next, swap_access_at, swap_next_at, owed_next}
+use Rattle.kc_machine_invariants.specs.kc_machine_steps.Swaps.{may_swap, seen_word, word_after, exchange, exchange_next, swap_access_at, swap_next_at, swap_owed_next}
 use Rattle.kc_machine_invariants.specs.kc_machine_steps.declared.swap.SwapNext.{SwapNext}
 use Rattle.kc_machine_invariants.specs.kc_machine_steps.declared.swap.SwapNext.TheVariants.{Goes, Takes, Tells}
 use Rattle.kc_machine_invariants.specs.kc_machine_steps.declared.swap.SwapStep.{SwapStep}
@@ -36,7 +36,7 @@ module _ (k : ℕ) (m : State) (s : Stand) (r : Seen) (after : ℕ) where
   abbrev one : {v : World} {b : Stand} → Effects.Effect k m.world (standing swap.Exchange) v b → Path k m.world (standing swap.Exchange) v b
   one e = onward e stay
 
-  owes_on : (v : World) (owed : ℕ) → Path k v (standing (swap.Signal owed)) v (next_swap s r after (owed_next s.calls owed))
+  owes_on : (v : World) (owed : ℕ) → Path k v (standing (swap.Signal owed)) v (next_swap s r after (swap_owed_next s.calls owed))
   owes_on v owed = go (owed == 0) refl
     where
       go : (b : Bool) → (owed == 0) ≡ b → Path k v (standing (swap.Signal owed)) v (next_swap s r after (if b then Tells (told.Succeeded s.calls) else Goes (swap.Signal owed)))

@@ -21,7 +21,7 @@ use Rattle.kc_machine_invariants.specs.kc_machine.Words.{word_is, phase_is, stat
 use Rattle.kc_machine_invariants.specs.Changes.{held_once_more, held_once_less}
 use Rattle.kc_machine_invariants.specs.Holds.{NoHold, step_hold, turn_hold}
 use Rattle.kc_machine_invariants.specs.Stands.{turn}
-use Rattle.kc_machine_invariants.specs.kc_machine_steps.Lines.{next_line, word_of}
+use Rattle.kc_machine_invariants.specs.kc_machine_steps.Lines.{next_line, reference_word}
 use Rattle.kc_machine_invariants.specs.kc_machine_steps.Looks.{reference_of}
 use Rattle.kc_machine_invariants.specs.kc_machine_steps.Passes.{status, refers_to, from_install, install_or_check, from_check, check_or_decide, from_release, release_or_finish, check_drop_next}
 
@@ -60,17 +60,17 @@ status_other s g e q =
 is_it : (g d k : ℕ) → word_is (Ref g d k) (Ref g d k) ≡ true
 is_it g d k = rw (eq-eqb d d refl, eq-eqb g g refl, eq-eqb k k refl) refl
 
-pub word_else : (v : Word) (h : Handle) (k : ℕ) → word_is v (word_of h k) ≡ false → v ≢ word_of h k
-word_else v h k e q = let t = is_it h.generation h.descriptor k in let z = ap (λ x. word_is x (word_of h k)) q in absurd (cc)
+pub word_else : (v : Word) (h : Handle) (k : ℕ) → word_is v (reference_word h k) ≡ false → v ≢ reference_word h k
+word_else v h k e q = let t = is_it h.generation h.descriptor k in let z = ap (λ x. word_is x (reference_word h k)) q in absurd (cc)
 
-pub word_same : (v : Word) (h : Handle) (k : ℕ) → word_is v (word_of h k) ≡ true → v ≡ word_of h k
+pub word_same : (v : Word) (h : Handle) (k : ℕ) → word_is v (reference_word h k) ≡ true → v ≡ reference_word h k
 word_same (Plain x y) h k e = absurd (cc)
 word_same (Ref g d i) h k e =
     let b = both ((g == h.generation) && (d == h.descriptor)) (i == k) e in
     let c = both (g == h.generation) (d == h.descriptor) b.0 in
     λ j. Ref (eqb-true _ _ c.0 j) (eqb-true _ _ c.1 j) (eqb-true _ _ b.1 j)
 
-pub refers : (g d i k : ℕ) (h : Handle) → refers_to h k (reference_of g d i) ≡ true → Ref g d i ≡ word_of h k
+pub refers : (g d i k : ℕ) (h : Handle) → refers_to h k (reference_of g d i) ≡ true → Ref g d i ≡ reference_word h k
 refers g d i k h e =
     let b = both (d == h.descriptor) ((g == h.generation) && (i == k)) e in
     let c = both (g == h.generation) (i == k) b.1 in

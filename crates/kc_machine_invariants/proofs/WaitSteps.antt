@@ -19,21 +19,21 @@ use Rattle.kc_machine_invariants.specs.kc_machine.Seats.{blocked_by}
 use Rattle.kc_machine_invariants.proofs.LookSteps.{looks}
 use Rattle.kc_machine_invariants.specs.Effects
 use Rattle.kc_machine_invariants.specs.Effects.{Path, stay, onward}
-use Rattle.kc_machine_invariants.specs.Stands.{Stand, idle, hangs, location_of, Hangs, HangLooks, Looks, Leaving}
+use Rattle.kc_machine_invariants.specs.Stands.{Stand, idle, stand_hangs, location_of, Hangs, HangLooks, Looks, Leaving}
 use Rattle.kc_machine_invariants.specs.kc_machine_steps.Lines.{after_line}
 use Rattle.kc_machine_invariants.specs.kc_machine_steps.Looks.{look_access, look_next}
 
 -- how a seat stands after a step of its hang
 abbrev pub next_hang : Stand → List Seen → HangNext → Stand
-next_hang s reads (Goes step) = hangs (idle s) reads step
+next_hang s reads (Goes step) = stand_hangs (idle s) reads step
 next_hang s reads (Tells t) = record (Effects.ends s t) { blocked = blocked_by s.blocked t }
 
 module _ (k : ℕ) (m : State) (s : Stand) (reads : List Seen) where
   abbrev To : HangStep → World → HangNext → Type 0
-  To step v next = Path k m.world (hangs (idle s) reads step) v (next_hang s reads next)
+  To step v next = Path k m.world (stand_hangs (idle s) reads step) v (next_hang s reads next)
 
   -- the bits of the reads behind are set, or the looks begin
-  sets_on : (v : World) (j : ℕ) (o : Option Seen) → slice_get reads j ≡ o → Path k v (record (idle s) { wait = Hangs reads (hang.Set j) }) v (hangs (idle s) reads (set_or_look j o))
+  sets_on : (v : World) (j : ℕ) (o : Option Seen) → slice_get reads j ≡ o → Path k v (record (idle s) { wait = Hangs reads (hang.Set j) }) v (stand_hangs (idle s) reads (set_or_look j o))
   sets_on v j None e = onward (Effects.hang_looks (idle s) e) stay
   sets_on v j (Some x) e = stay
 

@@ -10,7 +10,7 @@ use Rattle.kc_machine_invariants.specs.kc_machine_steps.declared.task.Told.TheVa
 use Rattle.kc_machine_invariants.specs.kc_machine.Machine.{World}
 use Rattle.kc_machine_invariants.specs.kc_machine_commits.Commits.{after_scan, told_of}
 use Rattle.kc_machine_invariants.proofs.Counted.{cells}
-use Rattle.kc_machine_invariants.specs.Claims.{IsWorn, back}
+use Rattle.kc_machine_invariants.specs.Claims.{DescriptorIsWorn, back}
 use Rattle.kc_machine_invariants.specs.Effects
 use Rattle.kc_machine_invariants.specs.Stands.{Stand, Scanning, NoScan, Scans, Takes}
 
@@ -31,13 +31,13 @@ abbrev pub Placed : ℕ → Scanning → Type 0
 Placed n x = (d worn : ℕ) → place x ≡ Scanning_at d worn → d < n
 
 abbrev pub Scanned : ℕ → World → Scanning → Type 0
-Scanned n w x = (d worn e : ℕ) → place x ≡ Scanning_at d worn → e < n → back n d e ≤ worn → IsWorn w e
+Scanned n w x = (d worn e : ℕ) → place x ≡ Scanning_at d worn → e < n → back n d e ≤ worn → DescriptorIsWorn w e
 
 abbrev pub ToldWorn : ℕ → World → Option Told → Type 0
-ToldWorn n w t = (e : ℕ) → t ≡ Some told.Worn → e < n → IsWorn w e
+ToldWorn n w t = (e : ℕ) → t ≡ Some told.Worn → e < n → DescriptorIsWorn w e
 
 -- no generation comes back
-pub worn_stays : (k : ℕ) {w w' : World} {s s' : Stand} → Effects.Effect k w s w' s' → (e : ℕ) → IsWorn w e → IsWorn w' e
+pub worn_stays : (k : ℕ) {w w' : World} {s s' : Stand} → Effects.Effect k w s w' s' → (e : ℕ) → DescriptorIsWorn w e → DescriptorIsWorn w' e
 worn_stays k (Effects.take s d g e z l) i h = grind cells
 worn_stays k _ i h = grind cells
 
@@ -84,18 +84,18 @@ back_some n d e m = go (nat_lt e d) refl
     go false q = omega arith
 
 -- one scan more found none left
-scanned_more : (n : ℕ) (w : World) (d worn : ℕ) → d < n → IsWorn w d → ((e : ℕ) → e < n → back n d e ≤ worn → IsWorn w e) → (e : ℕ) → e < n → back n (after_scan n d) e ≤ worn + 1 → IsWorn w e
+scanned_more : (n : ℕ) (w : World) (d worn : ℕ) → d < n → DescriptorIsWorn w d → ((e : ℕ) → e < n → back n d e ≤ worn → DescriptorIsWorn w e) → (e : ℕ) → e < n → back n (after_scan n d) e ≤ worn + 1 → DescriptorIsWorn w e
 scanned_more n w d worn l h f e m b = go (e == d) refl
   where
-    go : (c : Bool) → (e == d) ≡ c → IsWorn w e
+    go : (c : Bool) → (e == d) ≡ c → DescriptorIsWorn w e
     go true q = let x = eqb-true e d q in rw x h
     go false q = let x = back_after n d e l m (eqb-false e d q) in f e m (omega arith)
 
 -- as many as there are descriptors
-scanned_all : (n : ℕ) (w : World) (d worn : ℕ) → d < n → IsWorn w d → n - 1 ≤ worn → ((e : ℕ) → e < n → back n d e ≤ worn → IsWorn w e) → (e : ℕ) → e < n → IsWorn w e
+scanned_all : (n : ℕ) (w : World) (d worn : ℕ) → d < n → DescriptorIsWorn w d → n - 1 ≤ worn → ((e : ℕ) → e < n → back n d e ≤ worn → DescriptorIsWorn w e) → (e : ℕ) → e < n → DescriptorIsWorn w e
 scanned_all n w d worn l h a f e m = go (e == d) refl
   where
-    go : (c : Bool) → (e == d) ≡ c → IsWorn w e
+    go : (c : Bool) → (e == d) ≡ c → DescriptorIsWorn w e
     go true q = let x = eqb-true e d q in rw x h
     go false q = let x = back_far n d e l m (eqb-false e d q) in f e m (omega arith)
 

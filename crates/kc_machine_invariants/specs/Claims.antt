@@ -23,8 +23,8 @@ abbrev pub StraysAreOthers : State → Type 0
 StraysAreOthers m = (k d g : ℕ) → k < m.callers → Strays (stand (m.seats k)) d g → (m.world.control d).generation ≢ g
 
 -- no generation of d is left: it stands at the last one
-abbrev pub IsWorn : World → ℕ → Type 0
-IsWorn w d = LAST_GENERATION ≤ (w.control d).generation
+abbrev pub DescriptorIsWorn : World → ℕ → Type 0
+DescriptorIsWorn w d = LAST_GENERATION ≤ (w.control d).generation
 
 -- how many scans before that of d the scan of e was, in a round of n: from d to itself n, a whole round
 abbrev pub back : ℕ → ℕ → ℕ → ℕ
@@ -32,8 +32,8 @@ back n d e = if nat_lt e d then d - e else d + n - e
 
 -- the last `worn` descriptors that a search scanned have no generation left
 abbrev pub WornScansHold : State → Type 0
-WornScansHold m = (k d worn e : ℕ) (i : Intent) → k < m.callers → (stand (m.seats k)).scan ≡ Scans i d worn → e < m.descriptors → back m.descriptors d e ≤ worn → IsWorn m.world e
+WornScansHold m = (k d worn e : ℕ) (i : Intent) → k < m.callers → (stand (m.seats k)).scan ≡ Scans i d worn → e < m.descriptors → back m.descriptors d e ≤ worn → DescriptorIsWorn m.world e
 
 -- where a seat was told Worn, no descriptor has a generation left
 abbrev pub WornIsTrue : State → Type 0
-WornIsTrue m = (k d : ℕ) → k < m.callers → (m.seats k).told ≡ Some told.Worn → d < m.descriptors → IsWorn m.world d
+WornIsTrue m = (k d : ℕ) → k < m.callers → (m.seats k).told ≡ Some told.Worn → d < m.descriptors → DescriptorIsWorn m.world d

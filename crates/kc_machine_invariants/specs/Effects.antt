@@ -41,29 +41,29 @@ use Rattle.kc_machine_invariants.specs.kc_machine.Machine.{World}
 use Rattle.kc_machine_invariants.specs.kc_machine.Words.{bits_after, word_is}
 use Rattle.kc_machine_invariants.specs.kc_machine_commits.Commits.{after_scan, fill_next, finished, wake_next, owed_next, told_of}
 use Rattle.kc_machine_invariants.specs.kc_machine_commits.Halts.{halted_pass, halted_aid_pass, halted_aid, halted_own}
-use Rattle.kc_machine_invariants.specs.Changes.{with_word, with_awaiters, with_status, with_owner, with_first, with_second, with_signal, taken, held_once_more, held_once_less}
+use Rattle.kc_machine_invariants.specs.Changes.{with_word, with_awaiters, with_status, with_owner, with_first, with_second, with_signal, descriptor_taken, held_once_more, held_once_less}
 use Rattle.kc_machine_invariants.specs.Holds.{look_hold as hold_of_look}
 use Rattle.kc_machine_invariants.specs.Holds.{NoHold, dropping, step_hold, turn_hold, aid_step_hold, look_step_hold}
 use Rattle.kc_machine_invariants.specs.Stands.{NoOwn, Owns, Runs, Waits, Turn, At, Meets, Ends, Leaves, NoPass, Over, NoAid, Aids, Passes, NoLook, Looks, Scanning, NoScan, Scans, Takes, Hangs, HangLooks, Leaving, Swaps, Stand, idle, turn, location_of, met_by_look_step}
 use Rattle.kc_machine_invariants.specs.kc_machine_steps.Aids.{copy_owner, copy_line}
-use Rattle.kc_machine_invariants.specs.kc_machine_steps.Lines.{one_more, after_line, first_of, second_of, joined, resolved_version, resolved_value, word_of, lines_of, is_installed}
+use Rattle.kc_machine_invariants.specs.kc_machine_steps.Lines.{one_more, after_line, first_of, second_of, line_of_halves, resolved_version, resolved_value, reference_word, lines_of, is_installed}
 use Rattle.kc_machine_invariants.specs.kc_machine_steps.Swaps.{seen_word, word_after}
 use Rattle.kc_machine_invariants.specs.kc_machine_steps.declared.swap.SwapStep.TheVariants as swap
 use Rattle.kc_machine_invariants.specs.kc_machine_steps.declared.swap.TheConstants.{MOST_SWAPS}
-use Rattle.kc_machine_invariants.specs.kc_machine_steps.Looks.{reference_of, seen_at, seen_as, again_or_saw}
+use Rattle.kc_machine_invariants.specs.kc_machine_steps.Looks.{reference_of, seen_with, seen_as, again_or_saw}
 use Rattle.kc_machine_invariants.specs.kc_machine_steps.Passes.{status, fits, refers_to, from_install, from_check, from_release, decided_as, agrees_or_fails, check_drop_next}
 
 abbrev pub passes : Stand → Handle → Mode → List Line → PassStep → Stand
 passes s h m xs p = record s { pass = Over h m xs (At p) }
 
-abbrev pub turns : Stand → Handle → Mode → List Line → Turn → Stand
-turns s h m xs t = record s { pass = Over h m xs t }
+abbrev pub stand_turns : Stand → Handle → Mode → List Line → Turn → Stand
+stand_turns s h m xs t = record s { pass = Over h m xs t }
 
 abbrev pub aided : Stand → Reference → Aided → AidStep → Stand
 aided s r c a = record s { aid = Aids r c (aiding.Goes a) }
 
-abbrev pub looked : Stand → Loc → LookStep → Stand
-looked s l step = record s { look = Looks l (looking.Goes step) }
+abbrev pub stand_looked : Stand → Loc → LookStep → Stand
+stand_looked s l step = record s { look = Looks l (looking.Goes step) }
 
 abbrev pub ends : Stand → Told → Stand
 ends s t = record (idle s) { told = Some t }
@@ -85,7 +85,7 @@ pub data Effect (k : ℕ) : World → Stand → World → Stand → Type 0 where
   scan_held : {w : World} (s : Stand) {i : Intent} {d n : ℕ} → (w.control d).generation < LAST_GENERATION → (w.control d).holds ≢ 0 → Effect k w (record s { scan = Scans i d n }) w (record s { scan = Scans i (after_scan s.descriptors d) 0 })
   scan_worn : {w : World} (s : Stand) {i : Intent} {d n : ℕ} → LAST_GENERATION ≤ (w.control d).generation → n < s.descriptors - 1 → Effect k w (record s { scan = Scans i d n }) w (record s { scan = Scans i (after_scan s.descriptors d) (n + 1) })
   scan_ends : {w : World} (s : Stand) {i : Intent} {d n : ℕ} {b : Bool} → LAST_GENERATION ≤ (w.control d).generation → s.descriptors - 1 ≤ n → Effect k w (record (idle s) { halted = b; scan = Scans i d n }) w (ends s told.Worn)
-  take : {w : World} (s : Stand) {i : Intent} (d g : ℕ) → (w.control d).generation ≡ g → (w.control d).holds ≡ 0 → g < LAST_GENERATION → Effect k w (record s { scan = Takes i d g; own = NoOwn }) (taken w d g) (record s { scan = NoScan; own = Owns (record { descriptor = d; generation = g + 1 }) i own.FillOwner; calls = one_more s.calls })
+  take : {w : World} (s : Stand) {i : Intent} (d g : ℕ) → (w.control d).generation ≡ g → (w.control d).holds ≡ 0 → g < LAST_GENERATION → Effect k w (record s { scan = Takes i d g; own = NoOwn }) (descriptor_taken w d g) (record s { scan = NoScan; own = Owns (record { descriptor = d; generation = g + 1 }) i own.FillOwner; calls = one_more s.calls })
   take_lost : {w : World} (s : Stand) {i : Intent} {d g : ℕ} → Effect k w (record s { scan = Takes i d g }) w (record s { scan = Scans i (after_scan s.descriptors d) 0 })
   -- the own descriptor
   fill_owner : {w : World} (s : Stand) {h : Handle} {i : Intent} → Effect k w (record s { own = Owns h i own.FillOwner }) (with_owner w h.descriptor (record { caller = s.caller; mode = i.mode; lines = length i.lines.items; number = s.calls })) (record s { own = Owns h i (fill_next i.lines.items 0) })
@@ -97,10 +97,10 @@ pub data Effect (k : ℕ) : World → Stand → World → Stand → Type 0 where
   signal : {w : World} (s : Stand) {h : Handle} {i : Intent} {owed : ℕ} → Effect k w (record s { own = Owns h i (own.Signal owed) }) (with_signal w (count_trailing_zeros 64 owed) true) (record s { own = Owns h i (owed_next (bit_and owed (owed - 1))) })
   drop : {w : World} (s : Stand) {h : Handle} {i : Intent} {b : Bool} (p : Phase) → Effect k w (record (idle s) { halted = b; own = Owns h i (own.Drop p) }) (held_once_less w h.descriptor) (ends s (told_of p s.calls))
   -- a pass installs
-  install : {w : World} (s : Stand) {h : Handle} {m : Mode} {xs : List Line} {j : ℕ} (x : Line) (q : PassStep) → slice_get xs j ≡ Some x → w.word x.seen.loc.0 ≡ Plain x.seen.version x.seen.value → q ≡ from_install m xs (after_line j) → step_hold q ≡ NoHold → is_installed m x ≡ true → j < MOST → Effect k w (passes s h m xs (Install j)) (with_word w x.seen.loc.0 (word_of h j)) (passes s h m xs q)
-  installed : {w : World} (s : Stand) {h : Handle} {m : Mode} {xs : List Line} {j : ℕ} (x : Line) (q : PassStep) → slice_get xs j ≡ Some x → w.word x.seen.loc.0 ≡ word_of h j → q ≡ from_install m xs (after_line j) → step_hold q ≡ NoHold → Effect k w (passes s h m xs (Install j)) w (passes s h m xs q)
+  install : {w : World} (s : Stand) {h : Handle} {m : Mode} {xs : List Line} {j : ℕ} (x : Line) (q : PassStep) → slice_get xs j ≡ Some x → w.word x.seen.loc.0 ≡ Plain x.seen.version x.seen.value → q ≡ from_install m xs (after_line j) → step_hold q ≡ NoHold → is_installed m x ≡ true → j < MOST → Effect k w (passes s h m xs (Install j)) (with_word w x.seen.loc.0 (reference_word h j)) (passes s h m xs q)
+  installed : {w : World} (s : Stand) {h : Handle} {m : Mode} {xs : List Line} {j : ℕ} (x : Line) (q : PassStep) → slice_get xs j ≡ Some x → w.word x.seen.loc.0 ≡ reference_word h j → q ≡ from_install m xs (after_line j) → step_hold q ≡ NoHold → Effect k w (passes s h m xs (Install j)) w (passes s h m xs q)
   unfit : {w : World} (s : Stand) {h : Handle} {m : Mode} {xs : List Line} {j v y : ℕ} (x : Line) → slice_get xs j ≡ Some x → w.word x.seen.loc.0 ≡ Plain v y → fits v y x ≡ false → Effect k w (passes s h m xs (Install j)) w (passes s h m xs (Decide (Failed j)))
-  meets : {w : World} (s : Stand) {h : Handle} {m : Mode} {xs : List Line} {j g d i : ℕ} (x : Line) → slice_get xs j ≡ Some x → w.word x.seen.loc.0 ≡ Ref g d i → refers_to h j (reference_of g d i) ≡ false → Effect k w (passes s h m xs (Install j)) w (turns s h m xs (Meets j (reference_of g d i)))
+  meets : {w : World} (s : Stand) {h : Handle} {m : Mode} {xs : List Line} {j g d i : ℕ} (x : Line) → slice_get xs j ≡ Some x → w.word x.seen.loc.0 ≡ Ref g d i → refers_to h j (reference_of g d i) ≡ false → Effect k w (passes s h m xs (Install j)) w (stand_turns s h m xs (Meets j (reference_of g d i)))
   -- a pass checks
   check_fits : {w : World} (s : Stand) {h : Handle} {m : Mode} {xs : List Line} {j v y : ℕ} (x : Line) (q : PassStep) → slice_get xs j ≡ Some x → w.word x.seen.loc.0 ≡ Plain v y → fits v y x ≡ true → q ≡ from_check m xs (after_line j) → step_hold q ≡ NoHold → Effect k w (passes s h m xs (Check j)) w (passes s h m xs q)
   check_unfit : {w : World} (s : Stand) {h : Handle} {m : Mode} {xs : List Line} {j v y : ℕ} (x : Line) → slice_get xs j ≡ Some x → w.word x.seen.loc.0 ≡ Plain v y → fits v y x ≡ false → Effect k w (passes s h m xs (Check j)) w (passes s h m xs (Decide (Failed j)))
@@ -110,14 +110,14 @@ pub data Effect (k : ℕ) : World → Stand → World → Stand → Type 0 where
   check_active : {w : World} (s : Stand) {h : Handle} {m : Mode} {xs : List Line} {j : ℕ} {r : Reference} → (w.status r.handle.descriptor).phase ≡ Active → Effect k w (passes s h m xs (CheckStatus j r)) w (passes s h m xs (CheckDrop j r false (checked.Decide (Crossed j))))
   check_decided : {w : World} (s : Stand) {h : Handle} {m : Mode} {xs : List Line} {j : ℕ} {r : Reference} (p : Phase) → (w.status r.handle.descriptor).phase ≡ p → p ≢ Active → Effect k w (passes s h m xs (CheckStatus j r)) w (passes s h m xs (CheckFirst j r p))
   check_first : {w : World} (s : Stand) {h : Handle} {m : Mode} {xs : List Line} {j : ℕ} {r : Reference} {p : Phase} (x : Line) → slice_get xs j ≡ Some x → Effect k w (passes s h m xs (CheckFirst j r p)) w (passes s h m xs (CheckDrop j r false (agrees_or_fails j (resolved_version (w.first r.handle.descriptor r.line) p == x.seen.version))))
-  check_drop : {w : World} (s : Stand) {h : Handle} {m : Mode} {xs : List Line} {j : ℕ} {r : Reference} {stray : Bool} {c : AfterCheck} (t : Turn) → t ≡ turn (CheckDrop j r stray c) (check_drop_next m xs j c) → turn_hold t ≡ NoHold → Effect k w (passes s h m xs (CheckDrop j r stray c)) (held_once_less w r.handle.descriptor) (turns s h m xs t)
+  check_drop : {w : World} (s : Stand) {h : Handle} {m : Mode} {xs : List Line} {j : ℕ} {r : Reference} {stray : Bool} {c : AfterCheck} (t : Turn) → t ≡ turn (CheckDrop j r stray c) (check_drop_next m xs j c) → turn_hold t ≡ NoHold → Effect k w (passes s h m xs (CheckDrop j r stray c)) (held_once_less w r.handle.descriptor) (stand_turns s h m xs t)
   -- a pass decides
-  decide : {w : World} (s : Stand) {h : Handle} {m : Mode} {xs : List Line} (p : Phase) (t : Turn) → w.status h.descriptor ≡ status h.generation Active → p ≢ Succeeded → t ≡ turn (Decide p) (from_release m xs 0 (decided_as p Active)) → turn_hold t ≡ NoHold → p ≢ Active → (p ≡ Halted → HaltsItself s) → Effect k w (passes s h m xs (Decide p)) (with_status w h.descriptor (status h.generation p)) (turns s h m xs t)
-  succeed : {w : World} (s : Stand) {h : Handle} {m : Mode} {xs : List Line} (t : Turn) → w.status h.descriptor ≡ status h.generation Active → t ≡ turn (Decide Succeeded) (from_release m xs 0 Succeeded) → turn_hold t ≡ NoHold → Effect k w (passes s h m xs (Decide Succeeded)) (with_status w h.descriptor (status h.generation Succeeded)) (turns s h m xs t)
-  learn : {w : World} (s : Stand) {h : Handle} {m : Mode} {xs : List Line} (p : Phase) (t : Turn) → w.status h.descriptor ≢ status h.generation Active → t ≡ turn (Decide p) (from_release m xs 0 (decided_as p (w.status h.descriptor).phase)) → turn_hold t ≡ NoHold → p ≢ Active → Effect k w (passes s h m xs (Decide p)) w (turns s h m xs t)
+  decide : {w : World} (s : Stand) {h : Handle} {m : Mode} {xs : List Line} (p : Phase) (t : Turn) → w.status h.descriptor ≡ status h.generation Active → p ≢ Succeeded → t ≡ turn (Decide p) (from_release m xs 0 (decided_as p Active)) → turn_hold t ≡ NoHold → p ≢ Active → (p ≡ Halted → HaltsItself s) → Effect k w (passes s h m xs (Decide p)) (with_status w h.descriptor (status h.generation p)) (stand_turns s h m xs t)
+  succeed : {w : World} (s : Stand) {h : Handle} {m : Mode} {xs : List Line} (t : Turn) → w.status h.descriptor ≡ status h.generation Active → t ≡ turn (Decide Succeeded) (from_release m xs 0 Succeeded) → turn_hold t ≡ NoHold → Effect k w (passes s h m xs (Decide Succeeded)) (with_status w h.descriptor (status h.generation Succeeded)) (stand_turns s h m xs t)
+  learn : {w : World} (s : Stand) {h : Handle} {m : Mode} {xs : List Line} (p : Phase) (t : Turn) → w.status h.descriptor ≢ status h.generation Active → t ≡ turn (Decide p) (from_release m xs 0 (decided_as p (w.status h.descriptor).phase)) → turn_hold t ≡ NoHold → p ≢ Active → Effect k w (passes s h m xs (Decide p)) w (stand_turns s h m xs t)
   -- a pass releases
-  release : {w : World} (s : Stand) {h : Handle} {m : Mode} {xs : List Line} {j : ℕ} {p : Phase} (x : Line) (t : Turn) → slice_get xs j ≡ Some x → w.word x.seen.loc.0 ≡ word_of h j → t ≡ turn (Release j p) (from_release m xs (after_line j) p) → turn_hold t ≡ NoHold → Effect k w (passes s h m xs (Release j p)) (with_word w x.seen.loc.0 (Plain (resolved_version (first_of x) p) (resolved_value (first_of x) (second_of x).after p))) (turns s h m xs t)
-  skip : {w : World} (s : Stand) {h : Handle} {m : Mode} {xs : List Line} {j : ℕ} {p : Phase} (x : Line) (t : Turn) → slice_get xs j ≡ Some x → w.word x.seen.loc.0 ≢ word_of h j → t ≡ turn (Release j p) (from_release m xs (after_line j) p) → turn_hold t ≡ NoHold → Effect k w (passes s h m xs (Release j p)) w (turns s h m xs t)
+  release : {w : World} (s : Stand) {h : Handle} {m : Mode} {xs : List Line} {j : ℕ} {p : Phase} (x : Line) (t : Turn) → slice_get xs j ≡ Some x → w.word x.seen.loc.0 ≡ reference_word h j → t ≡ turn (Release j p) (from_release m xs (after_line j) p) → turn_hold t ≡ NoHold → Effect k w (passes s h m xs (Release j p)) (with_word w x.seen.loc.0 (Plain (resolved_version (first_of x) p) (resolved_value (first_of x) (second_of x).after p))) (stand_turns s h m xs t)
+  skip : {w : World} (s : Stand) {h : Handle} {m : Mode} {xs : List Line} {j : ℕ} {p : Phase} (x : Line) (t : Turn) → slice_get xs j ≡ Some x → w.word x.seen.loc.0 ≢ reference_word h j → t ≡ turn (Release j p) (from_release m xs (after_line j) p) → turn_hold t ≡ NoHold → Effect k w (passes s h m xs (Release j p)) w (stand_turns s h m xs t)
   -- the own pass ends, or waits; it has no way out but its decision
   own_meets : {w : World} (s : Stand) {h e : Handle} {m : Mode} {xs : List Line} {i : Intent} {j : ℕ} {r : Reference} (c : Aided) → Effect k w (record s { own = Runs h i; pass = Over e m xs (Meets j r); aid = NoAid }) w (record s { own = Waits h i j; pass = NoPass; aid = Aids r c (aiding.Goes aid.Hold) })
   own_ends : {w : World} (s : Stand) {h e : Handle} {m : Mode} {xs : List Line} {i : Intent} {p : Phase} → Effect k w (record s { own = Runs h i; pass = Over e m xs (Ends p) }) w (record s { own = Owns h i (finished i p); pass = NoPass })
@@ -127,9 +127,9 @@ pub data Effect (k : ℕ) : World → Stand → World → Stand → Type 0 where
   aid_active : {w : World} (s : Stand) {r : Reference} {c : Aided} → (w.status r.handle.descriptor).phase ≡ Active → Effect k w (aided s r c aid.Status) w (aided s r c aid.Owner)
   aid_decided : {w : World} (s : Stand) {r : Reference} {c : Aided} (p : Phase) → (w.status r.handle.descriptor).phase ≡ p → p ≢ Active → Effect k w (aided s r c aid.Status) w (aided s r c (aid.First p))
   aid_first : {w : World} (s : Stand) {r : Reference} {c : Aided} {p : Phase} → Effect k w (aided s r c (aid.First p)) w (aided s r c (aid.Second p (w.first r.handle.descriptor r.line)))
-  aid_second : {w : World} (s : Stand) {r : Reference} {c : Aided} {p : Phase} {f : First} → Effect k w (aided s r c (aid.Second p f)) w (aided s r c (aid.Release p (joined f (w.second r.handle.descriptor r.line))))
-  aid_release : {w : World} (s : Stand) {r : Reference} {c : Aided} {p : Phase} {x : Line} → w.word x.seen.loc.0 ≡ word_of r.handle r.line → Effect k w (aided s r c (aid.Release p x)) (with_word w x.seen.loc.0 (Plain (resolved_version (first_of x) p) (resolved_value (first_of x) (second_of x).after p))) (aided s r c (aid.Drop false None))
-  aid_skip : {w : World} (s : Stand) {r : Reference} {c : Aided} {p : Phase} {x : Line} → w.word x.seen.loc.0 ≢ word_of r.handle r.line → Effect k w (aided s r c (aid.Release p x)) w (aided s r c (aid.Drop false None))
+  aid_second : {w : World} (s : Stand) {r : Reference} {c : Aided} {p : Phase} {f : First} → Effect k w (aided s r c (aid.Second p f)) w (aided s r c (aid.Release p (line_of_halves f (w.second r.handle.descriptor r.line))))
+  aid_release : {w : World} (s : Stand) {r : Reference} {c : Aided} {p : Phase} {x : Line} → w.word x.seen.loc.0 ≡ reference_word r.handle r.line → Effect k w (aided s r c (aid.Release p x)) (with_word w x.seen.loc.0 (Plain (resolved_version (first_of x) p) (resolved_value (first_of x) (second_of x).after p))) (aided s r c (aid.Drop false None))
+  aid_skip : {w : World} (s : Stand) {r : Reference} {c : Aided} {p : Phase} {x : Line} → w.word x.seen.loc.0 ≢ reference_word r.handle r.line → Effect k w (aided s r c (aid.Release p x)) w (aided s r c (aid.Drop false None))
   aid_owner : {w : World} (s : Stand) {r : Reference} {c : Aided} → Effect k w (aided s r c aid.Owner) w (aided s r (copy_owner c (found.Owner (w.owner r.handle.descriptor))) aid.LoadFirst)
   aid_load_first : {w : World} (s : Stand) {r : Reference} {c : Aided} → length c.lines.items < c.owner.lines → Effect k w (aided s r c aid.LoadFirst) w (aided s r c (aid.LoadSecond (w.first r.handle.descriptor (length c.lines.items))))
   aid_load_second : {w : World} (s : Stand) {r : Reference} {c : Aided} {f : First} → Effect k w (aided s r c (aid.LoadSecond f)) w (aided s r (copy_line c f (found.Second (w.second r.handle.descriptor (length c.lines.items)))) aid.LoadFirst)
@@ -144,14 +144,14 @@ pub data Effect (k : ℕ) : World → Stand → World → Stand → Type 0 where
   aid_onward : {w : World} (s : Stand) {r v : Reference} {c : Aided} → s.halted ≡ false → Effect k w (record s { aid = Aids r c (aiding.Back (Some v)) }) w (aided s v c aid.Hold)
   aid_halted : {w : World} (s : Stand) {h : Handle} {i : Intent} {j : ℕ} {r : Reference} {c : Aided} {o : Option Reference} → s.halted ≡ true → Effect k w (record s { own = Waits h i j; pass = NoPass; aid = Aids r c (aiding.Back o) }) w (record s { own = Runs h i; pass = Over h i.mode i.lines.items (At (Decide Halted)); aid = NoAid })
   -- a look
-  look_plain : {w : World} (s : Stand) {l : Loc} {v y : ℕ} → w.word l.0 ≡ Plain v y → Effect k w (looked s l look.Load) w (record s { look = Looks l (looking.Saw (seen_at l v y)) })
-  look_meets : {w : World} (s : Stand) {l : Loc} {g d i : ℕ} → w.word l.0 ≡ Ref g d i → Effect k w (looked s l look.Load) w (looked s l (look.Hold (reference_of g d i)))
-  look_hold : {w : World} (s : Stand) {l : Loc} {r : Reference} → (w.control r.handle.descriptor).generation ≡ r.handle.generation → Effect k w (looked s l (look.Hold r)) (held_once_more w r.handle.descriptor) (looked s l (look.Status r))
-  look_stray : {w : World} (s : Stand) {l : Loc} {r : Reference} → (w.control r.handle.descriptor).generation ≢ r.handle.generation → Effect k w (looked s l (look.Hold r)) (held_once_more w r.handle.descriptor) (looked s l (look.Drop r true None))
-  look_status : {w : World} (s : Stand) {l : Loc} {r : Reference} → Effect k w (looked s l (look.Status r)) w (looked s l (look.First r (w.status r.handle.descriptor).phase))
-  look_first : {w : World} (s : Stand) {l : Loc} {r : Reference} {p : Phase} → Effect k w (looked s l (look.First r p)) w (looked s l (look.Second r p (w.first r.handle.descriptor r.line)))
-  look_second : {w : World} (s : Stand) {l : Loc} {r : Reference} {p : Phase} {f : First} → Effect k w (looked s l (look.Second r p f)) w (looked s l (look.Drop r false (Some (seen_as l f (w.second r.handle.descriptor r.line).after p))))
-  look_drop : {w : World} (s : Stand) {l : Loc} {r : Reference} {stray : Bool} {o : Option Seen} (n : LookNext) → n ≡ again_or_saw o → hold_of_look (Looks l n) ≡ NoHold → Effect k w (looked s l (look.Drop r stray o)) (held_once_less w r.handle.descriptor) (record s { look = Looks l n })
+  look_plain : {w : World} (s : Stand) {l : Loc} {v y : ℕ} → w.word l.0 ≡ Plain v y → Effect k w (stand_looked s l look.Load) w (record s { look = Looks l (looking.Saw (seen_with l v y)) })
+  look_meets : {w : World} (s : Stand) {l : Loc} {g d i : ℕ} → w.word l.0 ≡ Ref g d i → Effect k w (stand_looked s l look.Load) w (stand_looked s l (look.Hold (reference_of g d i)))
+  look_hold : {w : World} (s : Stand) {l : Loc} {r : Reference} → (w.control r.handle.descriptor).generation ≡ r.handle.generation → Effect k w (stand_looked s l (look.Hold r)) (held_once_more w r.handle.descriptor) (stand_looked s l (look.Status r))
+  look_stray : {w : World} (s : Stand) {l : Loc} {r : Reference} → (w.control r.handle.descriptor).generation ≢ r.handle.generation → Effect k w (stand_looked s l (look.Hold r)) (held_once_more w r.handle.descriptor) (stand_looked s l (look.Drop r true None))
+  look_status : {w : World} (s : Stand) {l : Loc} {r : Reference} → Effect k w (stand_looked s l (look.Status r)) w (stand_looked s l (look.First r (w.status r.handle.descriptor).phase))
+  look_first : {w : World} (s : Stand) {l : Loc} {r : Reference} {p : Phase} → Effect k w (stand_looked s l (look.First r p)) w (stand_looked s l (look.Second r p (w.first r.handle.descriptor r.line)))
+  look_second : {w : World} (s : Stand) {l : Loc} {r : Reference} {p : Phase} {f : First} → Effect k w (stand_looked s l (look.Second r p f)) w (stand_looked s l (look.Drop r false (Some (seen_as l f (w.second r.handle.descriptor r.line).after p))))
+  look_drop : {w : World} (s : Stand) {l : Loc} {r : Reference} {stray : Bool} {o : Option Seen} (n : LookNext) → n ≡ again_or_saw o → hold_of_look (Looks l n) ≡ NoHold → Effect k w (stand_looked s l (look.Drop r stray o)) (held_once_less w r.handle.descriptor) (record s { look = Looks l n })
   look_ends : {w : World} (s : Stand) {l : Loc} {b : Bool} {seen : Seen} → b ≡ false → Effect k w (record (idle s) { halted = b; look = Looks l (looking.Saw seen) }) w (ends s (told.Seen seen))
   look_halts : {w : World} (s : Stand) {l : Loc} {b : Bool} {n : LookNext} → hold_of_look (Looks l n) ≡ NoHold → Effect k w (record (idle s) { halted = b; look = Looks l n }) w (ends s told.Halted)
   -- a hang and a leave
@@ -174,7 +174,7 @@ pub data Effect (k : ℕ) : World → Stand → World → Stand → Type 0 where
   swap_ends : {w : World} (s : Stand) {r : Seen} {after : ℕ} → Effect k w (record (idle s) { swap = Swaps r after (swap.Signal 0) }) w (ends s (told.Succeeded s.calls))
   -- halts
   halt_scan : {w : World} (s : Stand) {b : Bool} {x : Scanning} → x ≢ NoScan → Effect k w (record (idle s) { halted = b; scan = x }) w (ends s told.Halted)
-  halt_look : {w : World} (s : Stand) {l : Loc} {step : LookStep} (r : Reference) (stray : Bool) → look_step_hold step ≡ dropping r stray → met_by_look_step step ≡ Some r → Effect k w (looked s l step) w (record s { halted = true; look = Looks l (looking.Goes (look.Drop r stray None)) })
+  halt_look : {w : World} (s : Stand) {l : Loc} {step : LookStep} (r : Reference) (stray : Bool) → look_step_hold step ≡ dropping r stray → met_by_look_step step ≡ Some r → Effect k w (stand_looked s l step) w (record s { halted = true; look = Looks l (looking.Goes (look.Drop r stray None)) })
   halt_swap : {w : World} (s : Stand) {r : Seen} {after : ℕ} → Effect k w (record (idle s) { swap = Swaps r after swap.Exchange }) w (ends s told.Halted)
   halt_commit : {w : World} {s : Stand} → Effect k w s w (record s { halted = true })
   halt_fill : {w : World} (s : Stand) {h : Handle} {i : Intent} {step : OwnStep} → s.halted ≡ true → halted_own step ≡ own.Abandon → Effect k w (record s { own = Owns h i step }) w (record s { own = Owns h i own.Abandon })

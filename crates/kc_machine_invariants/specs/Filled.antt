@@ -57,8 +57,8 @@ abbrev pub SecondsAreFilled : World → Own → Type 0
 SecondsAreFilled w o = (h : Handle) (i : Intent) (n : ℕ) (x : Line) → task o ≡ Some (h, i) → slice_get i.lines.items n ≡ Some x → Stored (SecondStored n) o → w.second h.descriptor n ≡ second_of x
 
 -- the words of an owned descriptor are those of its owner's intent and call
-abbrev pub Filled : World → Stand → Type 0
-Filled w s = OwnerIsFilled w s.caller s.calls s.own × FirstsAreFilled w s.own × SecondsAreFilled w s.own
+abbrev pub OwnedIsFilled : World → Stand → Type 0
+OwnedIsFilled w s = OwnerIsFilled w s.caller s.calls s.own × FirstsAreFilled w s.own × SecondsAreFilled w s.own
 
 abbrev pub OwnedWordsAreFilled : State → Type 0
-OwnedWordsAreFilled m = (k : ℕ) → k < m.callers → Filled m.world (stand (m.seats k))
+OwnedWordsAreFilled m = (k : ℕ) → k < m.callers → OwnedIsFilled m.world (stand (m.seats k))

@@ -30,13 +30,13 @@ abbrev pub IsCheckedAt : Mode → List Line → ℕ → Type 0
 IsCheckedAt m xs k = (x : Line) × (slice_get xs k ≡ Some x) × (is_installed m x ≡ false)
 
 -- what follows the check of line k, by whether its hold is stray
-abbrev pub Follows : ℕ → Bool → AfterCheck → Type 0
-Follows k true c = c ≡ checked.Again
-Follows k false c = (c ≡ checked.Agrees) ⊎ (c ≡ checked.Decide (Failed k)) ⊎ (c ≡ checked.Decide (Crossed k))
+abbrev pub FollowsCheck : ℕ → Bool → AfterCheck → Type 0
+FollowsCheck k true c = c ≡ checked.Again
+FollowsCheck k false c = (c ≡ checked.Agrees) ⊎ (c ≡ checked.Decide (Failed k)) ⊎ (c ≡ checked.Decide (Crossed k))
 
 -- where the task is halted, it may also be the way out
 abbrev pub FollowsOr : Bool → AfterCheck → ℕ → Bool → AfterCheck → Type 0
-FollowsOr halted out k stray c = Follows k stray c ⊎ ((halted ≡ true) × (c ≡ out))
+FollowsOr halted out k stray c = FollowsCheck k stray c ⊎ ((halted ≡ true) × (c ≡ out))
 
 -- a phase to decide isn't Active, and Halted only in the own pass of a halted task, whose way out that is
 abbrev pub MayDecide : Bool → AfterCheck → Phase → Type 0

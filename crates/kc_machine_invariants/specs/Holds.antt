@@ -93,13 +93,13 @@ sum_below f (suc n) = f n + sum_below f n
 -- ---- whether d is held at generation g
 
 -- x is one of the seat's holds
-abbrev pub Has : Stand → Hold → Type 0
-Has s x = (own_hold s.own ≡ x) ⊎ (check_hold s.pass ≡ x) ⊎ (aid_hold s.aid ≡ x) ⊎ (look_hold s.look ≡ x)
+abbrev pub HasHold : Stand → Hold → Type 0
+HasHold s x = (own_hold s.own ≡ x) ⊎ (check_hold s.pass ≡ x) ⊎ (aid_hold s.aid ≡ x) ⊎ (look_hold s.look ≡ x)
 
 -- as its owner, or by a hold that found generation g
 abbrev pub Holds : Stand → ℕ → ℕ → Type 0
-Holds s d g = Has s (Proper d g)
+Holds s d g = HasHold s (Proper d g)
 
 -- by a hold that looked for generation g, and found another
 abbrev pub Strays : Stand → ℕ → ℕ → Type 0
-Strays s d g = Has s (Stray d g)
+Strays s d g = HasHold s (Stray d g)

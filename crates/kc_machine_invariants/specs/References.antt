@@ -53,8 +53,8 @@ met_by_look NoLook = None
 met_by_look (Looks l (looking.Goes step)) = met_by_look_step step
 met_by_look (Looks l (looking.Saw seen)) = None
 
-abbrev pub Remembers : Stand → Reference → Type 0
-Remembers s r = (met_by_pass s.pass ≡ Some r) ⊎ (met_by_aid s.aid ≡ Some r) ⊎ (onward_by_aid s.aid ≡ Some r) ⊎ (met_by_look s.look ≡ Some r)
+abbrev pub RemembersReference : Stand → Reference → Type 0
+RemembersReference s r = (met_by_pass s.pass ≡ Some r) ⊎ (met_by_aid s.aid ≡ Some r) ⊎ (onward_by_aid s.aid ≡ Some r) ⊎ (met_by_look s.look ≡ Some r)
 
 -- a life that was started: its generation is not above the status's
 abbrev pub IsPublished : World → (d g : ℕ) → Type 0
@@ -64,7 +64,7 @@ abbrev pub WordsArePublished : State → Type 0
 WordsArePublished m = (l g d j : ℕ) → m.world.word l ≡ Ref g d j → IsPublished m.world d g
 
 abbrev pub RememberedArePublished : State → Type 0
-RememberedArePublished m = (k : ℕ) (r : Reference) → k < m.callers → Remembers (stand (m.seats k)) r → IsPublished m.world r.handle.descriptor r.handle.generation
+RememberedArePublished m = (k : ℕ) (r : Reference) → k < m.callers → RemembersReference (stand (m.seats k)) r → IsPublished m.world r.handle.descriptor r.handle.generation
 
 -- who holds (d, g) and doesn't fill it finds its status at g
 abbrev pub HeldAreStarted : State → Type 0

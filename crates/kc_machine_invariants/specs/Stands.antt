@@ -135,34 +135,34 @@ turn p (pass.Met j r) = Meets j r
 turn p (pass.Finished q) = Ends q
 turn p pass.Left = Leaves
 
-abbrev pub aids : Stand → Reference → Aided → AidStep → Stand
-aids t r c (aid.Pass p) = record t { aid = Passes r c; pass = Over r.handle c.owner.mode c.lines.items (At p) }
-aids t r c step = record t { aid = Aids r c (aiding.Goes step) }
+abbrev pub stand_aids : Stand → Reference → Aided → AidStep → Stand
+stand_aids t r c (aid.Pass p) = record t { aid = Passes r c; pass = Over r.handle c.owner.mode c.lines.items (At p) }
+stand_aids t r c step = record t { aid = Aids r c (aiding.Goes step) }
 
 abbrev pub owns : Stand → Intent → Aided → Handle → OwnStep → Stand
 owns t i c h (own.Pass p) = record t { own = Runs h i; pass = Over h i.mode i.lines.items (At p) }
-owns t i c h (own.Aid k r step) = aids (record t { own = Waits h i k }) r c step
+owns t i c h (own.Aid k r step) = stand_aids (record t { own = Waits h i k }) r c step
 owns t i c h step = record t { own = Owns h i step }
 
-abbrev pub commits : Stand → Intent → Aided → Stage → Stand
-commits t i c (stage.Scan d worn) = record t { scan = Scans i d worn }
-commits t i c (stage.Take d g) = record t { scan = Takes i d g }
-commits t i c (stage.Own h step) = owns t i c h step
+abbrev pub stand_commits : Stand → Intent → Aided → Stage → Stand
+stand_commits t i c (stage.Scan d worn) = record t { scan = Scans i d worn }
+stand_commits t i c (stage.Take d g) = record t { scan = Takes i d g }
+stand_commits t i c (stage.Own h step) = owns t i c h step
 
 -- where a hang looks for a read; past its last read no step touches a location, and 0 only stands there
 abbrev pub location_of : Option Seen → Loc
 location_of None = record { 0 = 0 }
 location_of (Some seen) = seen.loc
 
-abbrev pub hangs : Stand → List Seen → HangStep → Stand
-hangs t reads (hang.Look k step) = record t { wait = HangLooks reads k; look = Looks (location_of (slice_get reads k)) (looking.Goes step) }
-hangs t reads step = record t { wait = Hangs reads step }
+abbrev pub stand_hangs : Stand → List Seen → HangStep → Stand
+stand_hangs t reads (hang.Look k step) = record t { wait = HangLooks reads k; look = Looks (location_of (slice_get reads k)) (looking.Goes step) }
+stand_hangs t reads step = record t { wait = Hangs reads step }
 
 abbrev pub works : Stand → Work → Stand
 works t work.Idle = t
 works t (work.Look l) = record t { halted = l.halted; look = Looks l.loc (looking.Goes l.step) }
-works t (work.Commit c) = commits (record t { halted = c.halted }) c.intent c.copy c.stage
-works t (work.Hang h) = hangs t h.reads.items h.step
+works t (work.Commit c) = stand_commits (record t { halted = c.halted }) c.intent c.copy c.stage
+works t (work.Hang h) = stand_hangs t h.reads.items h.step
 works t (work.Leave l) = record t { wait = Leaving l.reads.items l.step }
 works t (work.Swap x) = record t { swap = Swaps x.seen x.after x.step }
 

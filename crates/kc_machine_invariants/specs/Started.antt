@@ -2,7 +2,7 @@
 use Rattle.std.specs.Prelude.{◌≡◌, ℕ, zero, suc, List, [], ◌∷◌}
 use Rattle.kc_machine_invariants.specs.kc_machine.Machine.{World, State, Opening}
 use Rattle.kc_machine_invariants.specs.Made.{IsWellMadeIntent}
-use Rattle.kc_machine_invariants.specs.kc_machine_steps.Lines.{joined}
+use Rattle.kc_machine_invariants.specs.kc_machine_steps.Lines.{line_of_halves}
 use Rattle.kc_machine_invariants.specs.kc_machine_steps.declared.line.Intent.{Intent}
 use Rattle.kc_model.specs.declared.footprint.Line.{Line}
 
@@ -13,7 +13,7 @@ listed f (suc n) = f 0 ∷ listed (λ i. f (suc i)) n
 
 -- line i, as its two words say it
 abbrev pub line_of_words : World → (d i : ℕ) → Line
-line_of_words w d i = joined (w.first d i) (w.second d i)
+line_of_words w d i = line_of_halves (w.first d i) (w.second d i)
 
 -- the mode and as many lines as the owner word says
 abbrev pub intent_of_words : World → ℕ → Intent

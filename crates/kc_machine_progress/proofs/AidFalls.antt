@@ -3,8 +3,8 @@ use Rattle.kc_machine_answers.specs.kc_machine.Machine.{World, found_at, touched
 use Rattle.kc_machine_progress.proofs.Left.{aid_left, is_active, is_last, leave_left, onward_left, pass_left}
 use Rattle.kc_machine_progress.proofs.PassFalls.{IsOut, NextFalls, install_below, pass_falls, release_falls, release_only}
 use Rattle.kc_machine_answers.specs.kc_machine_invariants.Fits.{AidFits, LoadsOn, StepFits}
-use Rattle.kc_machine_answers.specs.kc_machine_steps.Aids.{after_pass, aid_access, aid_copy, aid_next, drop_or_release, load_next, owner_or_first}
-use Rattle.kc_machine_answers.specs.kc_machine_steps.Lines.{joined}
+use Rattle.kc_machine_answers.specs.kc_machine_steps.Aids.{after_pass, aid_access, aid_copy, aid_next, drop_or_release, aid_load_next, owner_or_first}
+use Rattle.kc_machine_answers.specs.kc_machine_steps.Lines.{line_of_halves}
 use Rattle.kc_machine_answers.specs.kc_machine_steps.Passes.{from_install, from_release, pass_access, pass_next}
 use Rattle.kc_machine_answers.specs.kc_machine_steps.declared.aid.AidNext.{AidNext}
 use Rattle.kc_machine_answers.specs.kc_machine_steps.declared.aid.AidStep.{AidStep}
@@ -80,7 +80,7 @@ module _ (w : World) (fresh : (l g d i : ℕ) → w.word l ≡ Ref g d i → (w.
       go Halted = omega arith
 
   -- from so many lines on
-  loads : (v : World) (c : Aided) (old : ℕ) → 7 * MOST + 2 < old → (nat_lt (length c.lines.items) c.owner.lines ≡ true → 7 * MOST + 2 + 2 * (MOST - length c.lines.items) < old) → aid_left v r c (load_next c) < old
+  loads : (v : World) (c : Aided) (old : ℕ) → 7 * MOST + 2 < old → (nat_lt (length c.lines.items) c.owner.lines ≡ true → 7 * MOST + 2 + 2 * (MOST - length c.lines.items) < old) → aid_left v r c (aid_load_next c) < old
   loads v c old l f = go (nat_lt (length c.lines.items) c.owner.lines) refl
     where
       go : (t : Bool) → nat_lt (length c.lines.items) c.owner.lines ≡ t → aid_left v r c (if t then aid.LoadFirst else aid.Pass (from_install c.owner.mode c.lines.items 0)) < old
@@ -94,13 +94,13 @@ module _ (w : World) (fresh : (l g d i : ℕ) → w.word l ≡ Ref g d i → (w.
       s = w.second r.handle.descriptor (length a.lines.items)
 
       go : (t : Bool) → (length a.lines.items == MOST) ≡ t
-          → (let c = if t then a else record a { lines = record { items = a.lines.items ++ joined x s ∷ [] } } in aid_left w r c (load_next c)) < 7 * MOST + 1 + 2 * (MOST - length a.lines.items)
+          → (let c = if t then a else record a { lines = record { items = a.lines.items ++ line_of_halves x s ∷ [] } } in aid_left w r c (aid_load_next c)) < 7 * MOST + 1 + 2 * (MOST - length a.lines.items)
       go true e = let n = eqb-true (length a.lines.items) MOST e in let b = bounded.1 in absurd (omega arith)
       go false e =
           let n = eqb-false (length a.lines.items) MOST e in
           let b = bounded.0 in
-          let one = length_joined a.lines.items (joined x s) in
-          loads w (record a { lines = record { items = a.lines.items ++ joined x s ∷ [] } }) (7 * MOST + 1 + 2 * (MOST - length a.lines.items)) (omega arith) (λ f. omega (arith, one, n, b))
+          let one = length_joined a.lines.items (line_of_halves x s) in
+          loads w (record a { lines = record { items = a.lines.items ++ line_of_halves x s ∷ [] } }) (7 * MOST + 1 + 2 * (MOST - length a.lines.items)) (omega arith) (λ f. omega (arith, one, n, b))
 
   passes : (p : PassStep) → StepFits halted checked.Leave a.owner.mode a.lines.items p → Falls (aid.Pass p)
   passes p f = go (pass_next r.handle a.owner.mode a.lines.items p (found_at w (pass_access r.handle a.lines.items p))) (pass_falls w fresh halted checked.Leave a.owner.mode a.lines.items bounded.0 r.handle p f)

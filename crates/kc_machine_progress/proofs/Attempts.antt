@@ -10,7 +10,7 @@ use Rattle.kc_machine_progress.proofs.Spares.{BothKept}
 use Rattle.kc_machine_progress.proofs.Starting.{fee, paid_few}
 use Rattle.kc_machine_progress.proofs.Within.{owned_at}
 use Rattle.kc_machine_progress.specs.Attempts as attempts
-use Rattle.kc_machine_progress.specs.Attempts.{AttemptsEnd, CanBeTaken, Commits, IsAttempt, IsToldBy, Looks, is_crossed, makes}
+use Rattle.kc_machine_progress.specs.Attempts.{AttemptsEnd, CanBeTaken, MachineCommits, IsAttempt, IsToldBy, MachineLooks, is_crossed, makes}
 use Rattle.kc_machine_answers.specs.kc_machine_traces.Claims.{bound_alone, steps}
 use Rattle.kc_machine_answers.specs.kc_machine_steps.declared.task.Event.{Event}
 use Rattle.kc_machine_answers.specs.kc_machine_steps.declared.task.Task.TheVariants as task
@@ -33,7 +33,7 @@ module _ (o : Opening) (k : ℕ) (l : k < o.callers) (d e g h : ℕ) (ne : d ≢
     kept : BothKept d e g h ne (run o fs).world
     others : OthersRest o k l es fs
     seen : List Seen
-    looked : Looks k (run o es) ls seen n (run o fs)
+    looked : MachineLooks k (run o es) ls seen n (run o fs)
     at_them : map (λ (r : Seen). r.loc) seen ≡ ls
     below : All (λ (r : Seen). r.loc.0 < o.locations) seen
     versions : All (λ (r : Seen). r.version ≤ LAST_VERSION) seen
@@ -72,7 +72,7 @@ module _ (o : Opening) (k : ℕ) (l : k < o.callers) (d e g h : ℕ) (ne : d ≢
           kept = y.kept;
           others = λ j q. y.others j q ∙ z.others j q;
           seen = z.seen ∷ y.seen;
-          looked = attempts.look (run o es) (run o more.0) a ls z.seen y.seen one.0 more.1 (subst (λ (m : State). (m.seats k).told ≡ Some (told.Seen z.seen)) state z.told) (subst (λ m. Looks k m ls y.seen more.1 (run o more.0)) state y.looked);
+          looked = attempts.look (run o es) (run o more.0) a ls z.seen y.seen one.0 more.1 (subst (λ (m : State). (m.seats k).told ≡ Some (told.Seen z.seen)) state z.told) (subst (λ m. MachineLooks k m ls y.seen more.1 (run o more.0)) state y.looked);
           at_them = (λ i. z.at_it.0 i ∷ y.at_them i);
           below = All-cons (λ (r : Seen). r.loc.0 < o.locations) z.seen y.seen (subst (λ (l : Loc). l.0 < o.locations) (sym z.at_it.0) here) y.below;
           versions = All-cons (λ (r : Seen). r.version ≤ LAST_VERSION) z.seen y.seen z.at_it.1 y.versions;
@@ -135,5 +135,5 @@ all_attempts_end o es w k d e ls plan l idle de cd ce low short made = (
         let p = made z.seen z.at_them z.versions in
         (p.made, λ r c. All-contains (λ (r : Seen). r.loc.0 < o.locations) z.seen r z.below (p.reads r c), p.few)
 
-    ended : (x : ℕ) × (x ≤ seen.2 + 2 * cost o k l) × Commits k (run o seen.0) f x
+    ended : (x : ℕ) × (x ≤ seen.2 + 2 * cost o k l) × MachineCommits k (run o seen.0) f x
     ended = let z = seen.4 in committed o k l d e ne d_there e_there es idle cd ce seen.0 seen.2 f z.rest z.kept z.others well_made

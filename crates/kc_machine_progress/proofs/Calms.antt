@@ -9,8 +9,8 @@ use Rattle.kc_machine_answers.proofs.kc_machine_invariants.Tests.{both}
 use Rattle.kc_machine_answers.proofs.kc_machine_traces.Targets.{Target}
 use Rattle.kc_machine_answers.specs.kc_machine_traces.Lines.{IsInstalledLine, IsLastLife}
 use Rattle.kc_machine_answers.specs.kc_machine_invariants.Fits.{AidFits, IsCheckedAt, IsInstalledAt, StepFits}
-use Rattle.kc_machine_answers.specs.kc_machine_steps.Aids.{after_pass, aid_access, aid_copy, aid_next, drop_or_release, load_next, owner_or_first}
-use Rattle.kc_machine_answers.specs.kc_machine_steps.Lines.{after_line, first_of, resolved_value, resolved_version, second_of, word_of}
+use Rattle.kc_machine_answers.specs.kc_machine_steps.Aids.{after_pass, aid_access, aid_copy, aid_next, drop_or_release, aid_load_next, owner_or_first}
+use Rattle.kc_machine_answers.specs.kc_machine_steps.Lines.{after_line, first_of, resolved_value, resolved_version, second_of, reference_word}
 use Rattle.kc_machine_answers.specs.kc_machine_steps.Looks.{reference_of}
 use Rattle.kc_machine_answers.specs.kc_machine_steps.Passes.{check_access, check_drop_next, check_first_found, check_found, crossed_or_first, decide_access, decided_as, fits, from_check, from_install, from_release, install_access, install_found, pass_access, pass_next, refers_to, release_at, status}
 use Rattle.kc_machine_answers.specs.kc_machine_steps.declared.aid.AidNext.{AidNext}
@@ -103,18 +103,18 @@ module _ (w : World) (fit : (l g d i : ℕ) → w.word l ≡ Ref g d i → IsLas
         (λ g c i l q z u. let s = eqb-true c d u in subst (λ x. next_cover d (from_release m xs 0 p) x i ≡ true) (sym s) (search_covers d m xs w h t 0 i p refl (subst (λ x. IsInstalledLine w x i) s (fit l g c i q).1) (omega arith)))
         (λ i u. or_right _ _ (search_of d m xs 0 p f i u).0)
 
-    install_calm : (k : ℕ) (l : Loc) (old : Word) → Calm w (touched w (access.Location l (touch.CompareExchange old (word_of h k)))) (all_of d) (all_of d) f
+    install_calm : (k : ℕ) (l : Loc) (old : Word) → Calm w (touched w (access.Location l (touch.CompareExchange old (reference_word h k)))) (all_of d) (all_of d) f
     install_calm k l old = record {
       owner = refl;
       first = refl;
       second = refl;
       live = λ c g e. e;
-      left = λ j e. cas_cases (λ z. is_left w (all_of d) f z ≡ true → is_left w (all_of d) f (w.word j) ≡ true) w l old (word_of h k) j (λ a u. u) (λ a b u. u) (λ a b u. let z = (left_of w (all_of d) f h.generation d k u).open_to in absurd (let s = eq-eqb d d refl in let b : true ≡ false = sym s ∙ z in cc)) e;
-      pending = λ i q e. cas_cases (λ z. (is_active (w.status f).phase || ((f == d) || refers_line f i z)) ≡ true → is_pending w (all_of d) f i ≡ true) w l old (word_of h k) (place_of w f i) (λ a u. u) (λ a b u. u)
+      left = λ j e. cas_cases (λ z. is_left w (all_of d) f z ≡ true → is_left w (all_of d) f (w.word j) ≡ true) w l old (reference_word h k) j (λ a u. u) (λ a b u. u) (λ a b u. let z = (left_of w (all_of d) f h.generation d k u).open_to in absurd (let s = eq-eqb d d refl in let b : true ≡ false = sym s ∙ z in cc)) e;
+      pending = λ i q e. cas_cases (λ z. (is_active (w.status f).phase || ((f == d) || refers_line f i z)) ≡ true → is_pending w (all_of d) f i ≡ true) w l old (reference_word h k) (place_of w f i) (λ a u. u) (λ a b u. u)
           (λ a b u. or_mono _ _ _ _ (λ z. z) (λ z. or_left _ _ (by i (or_cases _ _ z))) u) e;
     }
       where
-        by : (i : ℕ) → ((f == d) ≡ true) ⊎ (refers_line f i (word_of h k) ≡ true) → (f == d) ≡ true
+        by : (i : ℕ) → ((f == d) ≡ true) ⊎ (refers_line f i (reference_word h k) ≡ true) → (f == d) ≡ true
         by i (inl z) = z
         by i (inr z) = turned d f (both _ _ z).0
 
@@ -152,17 +152,17 @@ module _ (w : World) (fit : (l g d i : ℕ) → w.word l ≡ Ref g d i → IsLas
             (λ a b. or_mono _ _ _ _ (λ z. z) (or_mono _ _ _ _ (λ z. (search_of d m xs 0 q f i z).0) (λ z. z)))
             (λ a b. absurd (eqb-false f d e a)) u
 
-    release_calm : (k : ℕ) (x : Line) (new : ℕ × ℕ) (p : Phase) → k < MOST → slice_get xs k ≡ Some x → Calm w (touched w (access.Location x.seen.loc (touch.CompareExchange (word_of h k) (Plain new.0 new.1)))) (from_on d k) (next_cover d (from_release m xs (after_line k) p)) f
+    release_calm : (k : ℕ) (x : Line) (new : ℕ × ℕ) (p : Phase) → k < MOST → slice_get xs k ≡ Some x → Calm w (touched w (access.Location x.seen.loc (touch.CompareExchange (reference_word h k) (Plain new.0 new.1)))) (from_on d k) (next_cover d (from_release m xs (after_line k) p)) f
     release_calm k x new p low is = record {
       owner = refl;
       first = refl;
       second = refl;
       live = λ c g e. e;
-      left = λ j e. cas_cases (λ z. is_left w y f z ≡ true → is_left w (from_on d k) f (w.word j) ≡ true) w x.seen.loc (word_of h k) (Plain new.0 new.1) j
+      left = λ j e. cas_cases (λ z. is_left w y f z ≡ true → is_left w (from_on d k) f (w.word j) ≡ true) w x.seen.loc (reference_word h k) (Plain new.0 new.1) j
           (λ a. left_word w w (from_on d k) y f (w.word j) (λ g c i q s. go g c i j q s (λ z u. a u)))
           (λ a b. left_word w w (from_on d k) y f (w.word j) (λ g c i q s. go g c i j q s (λ z u. b z)))
           (λ a b u. absurd (cc)) e;
-      pending = λ i q e. cas_cases (λ z. (is_active (w.status f).phase || (y f i || refers_line f i z)) ≡ true → is_pending w (from_on d k) f i ≡ true) w x.seen.loc (word_of h k) (Plain new.0 new.1) (place_of w f i) (λ a. still i) (λ a b. still i) (λ a b. lost i) e;
+      pending = λ i q e. cas_cases (λ z. (is_active (w.status f).phase || (y f i || refers_line f i z)) ≡ true → is_pending w (from_on d k) f i ≡ true) w x.seen.loc (reference_word h k) (Plain new.0 new.1) (place_of w f i) (λ a. still i) (λ a b. still i) (λ a b. lost i) e;
     }
       where
         y : Cover
@@ -186,7 +186,7 @@ module _ (w : World) (fit : (l g d i : ℕ) → w.word l ≡ Ref g d i → IsLas
         lost i = or_mono _ _ _ _ (λ z. z) (or_mono _ _ _ _ (less f i) (λ z. absurd (cc)))
 
         -- it is of a later line, or another's
-        go : (g c i j : ℕ) → w.word j ≡ Ref g c i → Lefts w y f g c i → (w.word j ≡ word_of h k → j ≡ x.seen.loc.0 → ⊥) → Lefts w (from_on d k) f g c i
+        go : (g c i j : ℕ) → w.word j ≡ Ref g c i → Lefts w y f g c i → (w.word j ≡ reference_word h k → j ≡ x.seen.loc.0 → ⊥) → Lefts w (from_on d k) f g c i
         go g c i j q s n = record { decided = s.decided; foreign = s.foreign; open_to = at (c == d) refl (nat_lt i k) refl }
           where
             at : (a : Bool) → (c == d) ≡ a → (b : Bool) → nat_lt i k ≡ b → (a && not b) ≡ false
@@ -202,7 +202,7 @@ module _ (w : World) (fit : (l g d i : ℕ) → w.word l ≡ Ref g d i → IsLas
                     let a = eqb-true i k u in
                     let r = fit j g c i q in
                     let life : h.generation ≡ g = sym t.control ∙ ap (λ z. (w.control z).generation) (sym mine) ∙ r.0.0 in
-                    let word : w.word j ≡ word_of h k = q ∙ (λ n. Ref (sym life n) (mine n) (a n)) in
+                    let word : w.word j ≡ reference_word h k = q ∙ (λ n. Ref (sym life n) (mine n) (a n)) in
                     let place : j ≡ x.seen.loc.0 = sym r.2 ∙ (λ n. (w.second (mine n) (a n)).loc) ∙ ap (λ (l : Line). l.seen.loc.0) (t.line k x is) in
                     n word place
                 by false u =
@@ -309,7 +309,7 @@ module _ (w : World) (fit : (l g d i : ℕ) → w.word l ≡ Ref g d i → IsLas
     keeps : (y : Cover) → y ≡ all_of c → Calm w w (all_of c) y f
     keeps y e = subst (λ z. Calm w w (all_of c) z f) (sym e) (covers_same w.control (all_of c))
 
-    loads : (b : Aided) → aid_cover c (load_next b) ≡ all_of c
+    loads : (b : Aided) → aid_cover c (aid_load_next b) ≡ all_of c
     loads b = go (nat_lt (length b.lines.items) b.owner.lines)
       where
         go : (t : Bool) → aid_cover c (if t then aid.LoadFirst else aid.Pass (from_install b.owner.mode b.lines.items 0)) ≡ all_of c
@@ -339,8 +339,8 @@ module _ (w : World) (fit : (l g d i : ℕ) → w.word l ≡ Ref g d i → IsLas
       first = refl;
       second = refl;
       live = λ c g e. e;
-      left = λ j e. cas_cases (λ z. is_left w nothing f z ≡ true → is_left w nothing f (w.word j) ≡ true) w x.seen.loc (word_of r.handle r.line) (Plain (resolved_version (first_of x) p) (resolved_value (first_of x) (second_of x).after p)) j (λ a u. u) (λ a b u. u) (λ a b u. absurd (cc)) e;
-      pending = λ i q e. cas_cases (λ z. (is_active (w.status f).phase || (false || refers_line f i z)) ≡ true → is_pending w nothing f i ≡ true) w x.seen.loc (word_of r.handle r.line) (Plain (resolved_version (first_of x) p) (resolved_value (first_of x) (second_of x).after p)) (place_of w f i) (λ a u. u) (λ a b u. u) (λ a b. lost i) e;
+      left = λ j e. cas_cases (λ z. is_left w nothing f z ≡ true → is_left w nothing f (w.word j) ≡ true) w x.seen.loc (reference_word r.handle r.line) (Plain (resolved_version (first_of x) p) (resolved_value (first_of x) (second_of x).after p)) j (λ a u. u) (λ a b u. u) (λ a b u. absurd (cc)) e;
+      pending = λ i q e. cas_cases (λ z. (is_active (w.status f).phase || (false || refers_line f i z)) ≡ true → is_pending w nothing f i ≡ true) w x.seen.loc (reference_word r.handle r.line) (Plain (resolved_version (first_of x) p) (resolved_value (first_of x) (second_of x).after p)) (place_of w f i) (λ a u. u) (λ a b u. u) (λ a b. lost i) e;
     }
       where
         lost : (i : ℕ) → (is_active (w.status f).phase || (false || false)) ≡ true → is_pending w nothing f i ≡ true

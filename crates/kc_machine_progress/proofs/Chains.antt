@@ -8,7 +8,7 @@ use Rattle.kc_machine_answers.proofs.kc_machine_invariants.Sums.{sum_below_part}
 use Rattle.kc_machine_answers.proofs.kc_machine_invariants.Tests.{both}
 use Rattle.kc_machine_answers.specs.kc_machine_invariants.Holds.{Hold, NoHold, Proper, Stray}
 use Rattle.kc_machine_answers.specs.kc_machine_traces.Lines.{IsInstalledLine}
-use Rattle.kc_machine_answers.specs.kc_machine_steps.Lines.{word_of}
+use Rattle.kc_machine_answers.specs.kc_machine_steps.Lines.{reference_word}
 use Rattle.kc_machine_answers.specs.kc_machine_steps.Passes.{status}
 use Rattle.kc_machine_answers.specs.kc_machine_words.declared.words.Handle.{Handle}
 use Rattle.kc_machine_answers.specs.kc_machine_words.declared.words.Phase.TheVariants.{Active}
@@ -93,17 +93,17 @@ module _ (n : ℕ) (at : ℕ → Hold) where
 
   -- an install of the life whose lines stand up to l
   pub chain_installs : (w : World) (l : ℕ) (h : Handle) (k : ℕ) (p : Loc) (old : Word) → k < MOST → every (stands_to w l h.descriptor) MOST ≡ true
-      → chain n at (touched w (access.Location p (touch.CompareExchange old (word_of h k)))) l ≤ chain n at w l
+      → chain n at (touched w (access.Location p (touch.CompareExchange old (reference_word h k)))) l ≤ chain n at w l
   chain_installs w l h k p old low e = sum_below_le _ _ n (λ j b. cond_le _ _ (above (at j)))
     where
       v : World
-      v = touched w (access.Location p (touch.CompareExchange old (word_of h k)))
+      v = touched w (access.Location p (touch.CompareExchange old (reference_word h k)))
 
       one : (d t : ℕ) → stands_to v l d t ≡ true → stands_to w l d t ≡ true
-      one d t = cas_cases (λ z. (not (in_line w d t && not (nat_lt l (place_of w d t))) || refers_line d t z) ≡ true → stands_to w l d t ≡ true) w p old (word_of h k) (place_of w d t) (λ a u. u) (λ a b u. u)
+      one d t = cas_cases (λ z. (not (in_line w d t && not (nat_lt l (place_of w d t))) || refers_line d t z) ≡ true → stands_to w l d t ≡ true) w p old (reference_word h k) (place_of w d t) (λ a u. u) (λ a b u. u)
           (λ a b u. by (or_cases _ _ u))
         where
-          by : (not (in_line w d t && not (nat_lt l (place_of w d t))) ≡ true) ⊎ (refers_line d t (word_of h k) ≡ true) → stands_to w l d t ≡ true
+          by : (not (in_line w d t && not (nat_lt l (place_of w d t))) ≡ true) ⊎ (refers_line d t (reference_word h k) ≡ true) → stands_to w l d t ≡ true
           by (inl z) = or_left _ _ z
           by (inr z) =
               let s = both _ _ z in

@@ -23,7 +23,7 @@ use Rattle.kc_machine_answers.specs.kc_machine_traces.Phases.{StepKnows}
 use Rattle.kc_machine_answers.specs.kc_machine_invariants.Started.{line_of_words}
 use Rattle.kc_machine_answers.specs.kc_machine_invariants.Fits.{AidFits, FollowsOr, IsInstalledAt, StepFits}
 use Rattle.kc_machine_answers.specs.kc_machine_steps.Aids.{aid_access, aid_copy, aid_next}
-use Rattle.kc_machine_answers.specs.kc_machine_steps.Lines.{after_line, is_installed, joined, next_line, word_of}
+use Rattle.kc_machine_answers.specs.kc_machine_steps.Lines.{after_line, is_installed, line_of_halves, next_line, reference_word}
 use Rattle.kc_machine_answers.specs.kc_machine_steps.Passes.{check_access, decided_as, from_release, install_access, pass_access, pass_next, refers_to, release_or_finish, status}
 use Rattle.kc_machine_answers.specs.kc_machine_steps.declared.aid.AidNext.{AidNext}
 use Rattle.kc_machine_answers.specs.kc_machine_steps.declared.aid.AidNext.TheVariants as aiding
@@ -182,7 +182,7 @@ module _ (n : ℕ) (at : ℕ → Hold) (f : ℕ) where
           subst (λ z. PaysOn (V p) h a old (pass_left w p + (MOST + 66)) (after_own_pass i z)) (sym e) (inl (record { pays = omega (arith, m, z); live = λ u. s ∙ x.live b }, refl))
 
       -- what it has met
-      module _ (k : ℕ) (y : IsInstalledAt i.mode xs k) (q : Reference) (l : Line) (is : slice_get xs k ≡ Some l) (stood : w.word l.seen.loc.0 ≡ word_of q.handle q.line) (other : refers_to h k q ≡ false) (live : IsOpen w h) where
+      module _ (k : ℕ) (y : IsInstalledAt i.mode xs k) (q : Reference) (l : Line) (is : slice_get xs k ≡ Some l) (stood : w.word l.seen.loc.0 ≡ reference_word q.handle q.line) (other : refers_to h k q ≡ false) (live : IsOpen w h) where
         abbrev mine : Reference
         mine = record { handle = h; line = 0 }
 
@@ -291,7 +291,7 @@ module _ (n : ℕ) (at : ℕ → Hold) (f : ℕ) where
       place_on j = (calm.2.second j d k).loc
 
       lined : in_line v d k ≡ true
-      lined = (λ j. nat_lt k (calm.2.owner j d).lines && is_installed (calm.2.owner j d).mode (joined (calm.2.first j d k) (calm.2.second j d k))) ∙ x.line
+      lined = (λ j. nat_lt k (calm.2.owner j d).lines && is_installed (calm.2.owner j d).mode (line_of_halves (calm.2.first j d k) (calm.2.second j d k))) ∙ x.line
 
       live_on : IsOpen v h
       live_on = keeps.0 ∙ x.live

@@ -2,7 +2,7 @@
 use Rattle.kc_machine_answers.proofs.kc_machine.Functions.{put_here}
 use Rattle.kc_machine_answers.specs.kc_machine.Machine.{Opening, State, World, found_at, run, touched}
 use Rattle.kc_machine_answers.specs.kc_machine.Schedules.{IsSchedule}
-use Rattle.kc_machine_answers.specs.kc_machine.Seats.{access_of, after, answer_by, answer_of, is_idle, work_access}
+use Rattle.kc_machine_answers.specs.kc_machine.Seats.{access_of, seat_after, answer_by, seat_answered, is_idle, work_access}
 use Rattle.kc_machine_answers.specs.kc_machine.Works as work
 use Rattle.kc_machine_answers.specs.kc_machine.Works.{Work}
 use Rattle.kc_machine_answers.specs.kc_machine.declared.seat.Seat.{Seat}
@@ -105,7 +105,7 @@ module _ (n : ℕ) (at : ℕ → Hold) (f d e g h : ℕ) (ne : d ≢ e) (free : 
     goes : (c : Commit) → s.work ≡ work.Commit c → s.told ≡ before.told → c.halted ≡ false → StageSpares d e g h ne v c.stage → StageOn n at f before.descriptors free v c.copy old left c.stage → Moves v before s old left
     ends : is_idle s.work ≡ true → is_some s.told ≡ true → Rests n at f v old → OneKept d e g h ne v → Moves v before s old left
 
-  pub next_moves : (v : World) (s : Seat) (c : Commit) (old left : ℕ) → c.halted ≡ false → (x : Next) → NextSpares d e g h ne v x → NextOn n at f s.descriptors free v c.copy old left x → Moves v s (after (record s { work = work.Commit (gone_on c x) }) (onward_by x)) old left
+  pub next_moves : (v : World) (s : Seat) (c : Commit) (old left : ℕ) → c.halted ≡ false → (x : Next) → NextSpares d e g h ne v x → NextOn n at f s.descriptors free v c.copy old left x → Moves v s (seat_after (record s { work = work.Commit (gone_on c x) }) (onward_by x)) old left
   next_moves v s c old left o (next.Goes x) z y = goes _ refl refl o z y
   next_moves v s c old left o (next.Takes x) z y = goes _ refl refl o z y
   next_moves v s c old left o (next.Tells t) z y = ends refl refl y z
@@ -151,7 +151,7 @@ ready o es w k l c is = go c.stage refl
         sole j g b q = owners_differ o es j k h.descriptor g h.generation (omega (arith, b, callers)) here (hold_same (m.seats j) ∙ q) mine
 
         stood : fills x ≡ true → (stand (m.seats k)).own ≡ Owns h c.intent x
-        stood fl = ap (λ y. (works (resting (m.seats k)) y).own) is ∙ ap (λ y. (stands.commits (record (resting (m.seats k)) { halted = c.halted }) c.intent c.copy y).own) e ∙ own_fills (record (resting (m.seats k)) { halted = c.halted }) c.intent c.copy h x fl
+        stood fl = ap (λ y. (works (resting (m.seats k)) y).own) is ∙ ap (λ y. (stands.stand_commits (record (resting (m.seats k)) { halted = c.halted }) c.intent c.copy y).own) e ∙ own_fills (record (resting (m.seats k)) { halted = c.halted }) c.intent c.copy h x fl
 
         idle : fills x ≡ true → (b : Bool) → is_active (m.world.status h.descriptor).phase ≡ b → b ≡ false
         idle fl false q = refl
@@ -248,7 +248,7 @@ module _ (o : Opening) (k : ℕ) (l : k < o.callers) (free : ℕ) (there : free 
     left = stage_left s.descriptors free w c.copy c.stage
 
     -- as it is after its step
-    moved : Moves o.callers (owned_at o es) outside d e g h ne free v s (after (record s { work = work.Commit (gone_on (loaded c found_there) (stage_next s.descriptors s.calls (loaded c found_there) c.stage found_there)) }) (onward_by (stage_next s.descriptors s.calls (loaded c found_there) c.stage found_there))) x.old left
+    moved : Moves o.callers (owned_at o es) outside d e g h ne free v s (seat_after (record s { work = work.Commit (gone_on (loaded c found_there) (stage_next s.descriptors s.calls (loaded c found_there) c.stage found_there)) }) (onward_by (stage_next s.descriptors s.calls (loaded c found_there) c.stage found_there))) x.old left
     moved =
         let knows = knows_at o es x.schedule k l in
         let fits = subst WorkFits x.is knows.fits in
@@ -266,10 +266,10 @@ module _ (o : Opening) (k : ℕ) (l : k < o.callers) (free : ℕ) (there : free 
         has (Own h step) b = b.1
 
     abbrev answered : Seat
-    answered = after (record s { work = work.Commit (gone_on (loaded c found_there) (stage_next s.descriptors s.calls (loaded c found_there) c.stage found_there)) }) (onward_by (stage_next s.descriptors s.calls (loaded c found_there) c.stage found_there))
+    answered = seat_after (record s { work = work.Commit (gone_on (loaded c found_there) (stage_next s.descriptors s.calls (loaded c found_there) c.stage found_there)) }) (onward_by (stage_next s.descriptors s.calls (loaded c found_there) c.stage found_there))
 
     seat : (run o es').seats k ≡ answered
-    seat = ap (λ (m : State). m.seats k) (steps_happen o es x.schedule k l busy) ∙ put_here m.seats k (answer_of s (found_at w (access_of s))) ∙ ap (λ y. answer_by s (found_at w (work_access s.caller s.calls y)) y) x.is
+    seat = ap (λ (m : State). m.seats k) (steps_happen o es x.schedule k l busy) ∙ put_here m.seats k (seat_answered s (found_at w (access_of s))) ∙ ap (λ y. answer_by s (found_at w (work_access s.caller s.calls y)) y) x.is
 
     world : (run o es').world ≡ v
     world = ap (λ (m : State). m.world) (steps_happen o es x.schedule k l busy) ∙ ap (λ y. touched w (work_access s.caller s.calls y)) x.is
@@ -313,8 +313,8 @@ module _ (o : Opening) (k : ℕ) (l : k < o.callers) (free : ℕ) (there : free 
       pays_on : (u : ℕ) → StagePays o.callers (owned_at o es) outside (run o es').world b.stage u → StagePays o.callers (owned_at o es') outside (run o es').world b.stage u
       pays_on u p = go (subst (λ (s : Seat). HoldStays (work_hold (m.seats k).work) s.work) (sym seat_of_it) (hold_stays s (found_at w (access_of s))))
         where
-          seat_of_it : (run o es').seats k ≡ answer_of s (found_at w (access_of s))
-          seat_of_it = ap (λ (m : State). m.seats k) (steps_happen o es x.schedule k l busy) ∙ put_here m.seats k (answer_of s (found_at w (access_of s)))
+          seat_of_it : (run o es').seats k ≡ seat_answered s (found_at w (access_of s))
+          seat_of_it = ap (λ (m : State). m.seats k) (steps_happen o es x.schedule k l busy) ∙ put_here m.seats k (seat_answered s (found_at w (access_of s)))
 
           dead : (y : Stage) → b.stage ≡ y → stage_free y ≡ true → is_live (run o es').world (stage_hold y) ≡ false
           dead (Scan a worn) e f = refl

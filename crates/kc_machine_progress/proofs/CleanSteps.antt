@@ -1,6 +1,6 @@
 -- Each step of a commit that nobody else has met leaves less to pay and to do, or tells.
 use Rattle.kc_machine_answers.proofs.kc_machine.Functions.{put_else, put_here}
-use Rattle.kc_machine_answers.specs.kc_machine.Machine.{World, found_at, put, touched}
+use Rattle.kc_machine_answers.specs.kc_machine.Machine.{World, found_at, put_at_index, touched}
 use Rattle.kc_machine_progress.proofs.AidFalls.{IsBounded}
 use Rattle.kc_machine_progress.proofs.Clean.{Begins, Pays, PaysOn, Rests, aids, paid_for, passes}
 use Rattle.kc_machine_progress.proofs.Covers.{install_cover}
@@ -115,21 +115,21 @@ module _ (n : ℕ) (at : ℕ → Hold) (f : ℕ) (some : 1 ≤ n) (w : World) (g
       filled a b c p q r old m = let z = paid_filled n at w h.descriptor f ready.idle ready.apart a b c p q r nothing MOST in omega (arith, z, m)
 
       fill_owner : (old : ℕ) → Begins n at f w old → Begins n at f (touched w (acc own.FillOwner)) old
-      fill_owner old m = filled (put w.owner h.descriptor _) w.first w.second (λ d q. put_else w.owner h.descriptor _ d q) (λ d q. refl) (λ d q. refl) old m
+      fill_owner old m = filled (put_at_index w.owner h.descriptor _) w.first w.second (λ d q. put_else w.owner h.descriptor _ d q) (λ d q. refl) (λ d q. refl) old m
 
       fill_firsts : (j old : ℕ) → Begins n at f w old → Begins n at f (touched w (acc (own.FillFirst j))) old
       fill_firsts j old m = go (slice_get xs j)
         where
           go : (o : Option Line) → Begins n at f (touched w (fill_first h.descriptor j o)) old
           go None = m
-          go (Some x) = filled w.owner (put w.first h.descriptor _) w.second (λ d q. refl) (λ d q. put_else w.first h.descriptor _ d q) (λ d q. refl) old m
+          go (Some x) = filled w.owner (put_at_index w.first h.descriptor _) w.second (λ d q. refl) (λ d q. put_else w.first h.descriptor _ d q) (λ d q. refl) old m
 
       fill_seconds : (j old : ℕ) → Begins n at f w old → Begins n at f (touched w (acc (own.FillSecond j))) old
       fill_seconds j old m = go (slice_get xs j)
         where
           go : (o : Option Line) → Begins n at f (touched w (fill_second h.descriptor j o)) old
           go None = m
-          go (Some x) = filled w.owner w.first (put w.second h.descriptor _) (λ d q. refl) (λ d q. refl) (λ d q. put_else w.second h.descriptor _ d q) old m
+          go (Some x) = filled w.owner w.first (put_at_index w.second h.descriptor _) (λ d q. refl) (λ d q. refl) (λ d q. put_else w.second h.descriptor _ d q) old m
 
       starts : (old : ℕ) → Begins n at f w old → Pay own.Start old
       starts old m =

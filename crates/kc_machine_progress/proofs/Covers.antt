@@ -1,6 +1,6 @@
 -- Which references a pass is about to release, step by step.
 use Rattle.kc_machine_answers.proofs.kc_machine.Functions.{put_else, put_here}
-use Rattle.kc_machine_answers.specs.kc_machine.Machine.{World, put, put_some, touched}
+use Rattle.kc_machine_answers.specs.kc_machine.Machine.{World, put_at_index, put_some, touched}
 use Rattle.kc_machine_answers.specs.kc_machine.Words.{status_is, word_is}
 use Rattle.kc_machine_progress.proofs.Left.{is_active}
 use Rattle.kc_machine_progress.proofs.PassFalls.{next_from}
@@ -146,7 +146,7 @@ cas_cases Q w l old new j else_ kept_so changed = go (word_is (w.word l.0) old) 
     go : (b : Bool) → word_is (w.word l.0) old ≡ b → (t : Bool) → (j == l.0) ≡ t → Q (put_some w.word l.0 (if b then Some new else None) j)
     go false e true q = let z = eqb-true j l.0 q in kept_so z (λ r. word_unequal (w.word l.0) old e (ap w.word (sym z) ∙ r))
     go false e false q = else_ (eqb-false j l.0 q)
-    go true e true q = let z = eqb-true j l.0 q in subst Q (sym (subst (λ x. put w.word x new j ≡ new) z (put_here w.word j new))) (changed z (ap w.word z ∙ word_equal (w.word l.0) old e))
+    go true e true q = let z = eqb-true j l.0 q in subst Q (sym (subst (λ x. put_at_index w.word x new j ≡ new) z (put_here w.word j new))) (changed z (ap w.word z ∙ word_equal (w.word l.0) old e))
     go true e false q = let z = eqb-false j l.0 q in subst Q (sym (put_else w.word l.0 new j z)) (else_ z)
 
 pub status_cases : (Q : Status → Type 0) (w : World) (h : Handle) (p : Phase) (j : ℕ) → (j ≢ h.descriptor → Q (w.status j)) → (j ≡ h.descriptor → (w.status j ≡ status h.generation Active → ⊥) → Q (w.status j)) → (j ≡ h.descriptor → w.status j ≡ status h.generation Active → Q (status h.generation p)) → Q ((touched w (decide_access h p)).status j)
@@ -155,7 +155,7 @@ status_cases Q w h p j else_ kept_so changed = go (status_is (w.status h.descrip
     go : (b : Bool) → status_is (w.status h.descriptor) (status h.generation Active) ≡ b → (t : Bool) → (j == h.descriptor) ≡ t → Q (put_some w.status h.descriptor (if b then Some (status h.generation p) else None) j)
     go false e true q = let z = eqb-true j h.descriptor q in kept_so z (λ r. status_other (w.status h.descriptor) h.generation e (ap w.status (sym z) ∙ r))
     go false e false q = else_ (eqb-false j h.descriptor q)
-    go true e true q = let z = eqb-true j h.descriptor q in subst Q (sym (subst (λ x. put w.status x (status h.generation p) j ≡ status h.generation p) z (put_here w.status j (status h.generation p)))) (changed z (ap w.status z ∙ status_active (w.status h.descriptor) h.generation e))
+    go true e true q = let z = eqb-true j h.descriptor q in subst Q (sym (subst (λ x. put_at_index w.status x (status h.generation p) j ≡ status h.generation p) z (put_here w.status j (status h.generation p)))) (changed z (ap w.status z ∙ status_active (w.status h.descriptor) h.generation e))
     go true e false q = let z = eqb-false j h.descriptor q in subst Q (sym (put_else w.status h.descriptor (status h.generation p) j z)) (else_ z)
 
 -- ---- the covers of a search

@@ -2,7 +2,7 @@
 use Rattle.kc_machine_answers.proofs.kc_machine.Functions.{put_else, put_here}
 use Rattle.kc_machine_answers.specs.kc_machine.Machine.{Opening, State, found_at, run}
 use Rattle.kc_machine_answers.specs.kc_machine.Schedules.{IsSchedule}
-use Rattle.kc_machine_answers.specs.kc_machine.Seats.{access_of, answer_of, is_idle}
+use Rattle.kc_machine_answers.specs.kc_machine.Seats.{access_of, seat_answered, is_idle}
 use Rattle.kc_machine_answers.specs.kc_machine.Works.{Work}
 use Rattle.kc_machine_answers.specs.kc_machine.declared.seat.Seat.{Seat}
 use Rattle.kc_machine_progress.proofs.Left.{work_left}
@@ -51,7 +51,7 @@ module _ (o : Opening) (k : ℕ) (l : k < o.callers) (e : ℕ) (there : e < 3 * 
 
   -- what is owned behind a step, by others and by all
   pub owned_else : (es : List Event) → IsSchedule o es → Busy es → (j : ℕ) → j ≢ k → owned_at o (After es) j ≡ owned_at o es j
-  owned_else es w i j ne = ap (λ (m : State). work_hold (m.seats j).work) (steps_happen o es w k l i) ∙ ap (λ (s : Seat). work_hold s.work) (put_else (run o es).seats k (answer_of ((run o es).seats k) (found_at (run o es).world (access_of ((run o es).seats k)))) j ne)
+  owned_else es w i j ne = ap (λ (m : State). work_hold (m.seats j).work) (steps_happen o es w k l i) ∙ ap (λ (s : Seat). work_hold s.work) (put_else (run o es).seats k (seat_answered ((run o es).seats k) (found_at (run o es).world (access_of ((run o es).seats k)))) j ne)
 
   pub owned_stays : (es : List Event) → IsSchedule o es → Busy es → work_hold ((run o (After es)).seats k).work ≡ work_hold ((run o es).seats k).work → owned_at o (After es) ≡ owned_at o es
   owned_stays es w i q = λ n j. same j n
@@ -66,8 +66,8 @@ module _ (o : Opening) (k : ℕ) (l : k < o.callers) (e : ℕ) (there : e < 3 * 
   rank_moves : (es : List Event) → IsSchedule o es → Busy es → (old : ℕ) → WorkRank o.callers (owned_at o es) (run o (After es)).world ((run o (After es)).seats k).work old → Rank (After es) old
   rank_moves es w i old r = go (subst (λ (s : Seat). HoldStays (work_hold ((run o es).seats k).work) s.work) (sym seat) (hold_stays ((run o es).seats k) (found_at (run o es).world (access_of ((run o es).seats k)))))
     where
-      seat : (run o (After es)).seats k ≡ answer_of ((run o es).seats k) (found_at (run o es).world (access_of ((run o es).seats k)))
-      seat = ap (λ (m : State). m.seats k) (steps_happen o es w k l i) ∙ put_here (run o es).seats k (answer_of ((run o es).seats k) (found_at (run o es).world (access_of ((run o es).seats k))))
+      seat : (run o (After es)).seats k ≡ seat_answered ((run o es).seats k) (found_at (run o es).world (access_of ((run o es).seats k)))
+      seat = ap (λ (m : State). m.seats k) (steps_happen o es w k l i) ∙ put_here (run o es).seats k (seat_answered ((run o es).seats k) (found_at (run o es).world (access_of ((run o es).seats k))))
 
       go : HoldStays (work_hold ((run o es).seats k).work) ((run o (After es)).seats k).work → Rank (After es) old
       go (inl z) = rank_free o.callers (owned_at o es) (owned_at o (After es)) (run o (After es)).world ((run o (After es)).seats k).work old z r

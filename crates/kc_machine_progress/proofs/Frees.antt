@@ -1,6 +1,6 @@
 -- What leaves fewer rounds: a decision, and the release of a reference that was left.
 use Rattle.kc_machine_answers.proofs.kc_machine.Functions.{put_cases, put_here}
-use Rattle.kc_machine_answers.specs.kc_machine.Machine.{World, put, touched}
+use Rattle.kc_machine_answers.specs.kc_machine.Machine.{World, put_at_index, touched}
 use Rattle.kc_machine_progress.proofs.Chains.{live_is, refers_same}
 use Rattle.kc_machine_progress.proofs.Covers.{or_false, or_left, or_right, status_cases}
 use Rattle.kc_machine_progress.proofs.Left.{is_active}
@@ -43,7 +43,7 @@ module _ (n : ℕ) (at : ℕ → Hold) (w : World) (h : Handle) (p : Phase) (ne 
 -- ---- a release
 
 abbrev pub freed : World → ℕ → Word → World
-freed w l z = record w { word = put w.word l z }
+freed w l z = record w { word = put_at_index w.word l z }
 
 module _ (n : ℕ) (at : ℕ → Hold) (w : World) (f k l : ℕ) (a b : ℕ) where
   free_calm : Calm w (freed w l (Plain a b)) nothing nothing f
@@ -60,7 +60,7 @@ module _ (n : ℕ) (at : ℕ → Hold) (w : World) (f k l : ℕ) (a b : ℕ) whe
   Fewer = rounds n at (freed w l (Plain a b)) nothing f k < rounds n at w nothing f k
 
   here_plain : (p : ℕ) → p ≡ l → (freed w l (Plain a b)).word p ≡ Plain a b
-  here_plain p e = ap (put w.word l (Plain a b)) e ∙ put_here w.word l (Plain a b)
+  here_plain p e = ap (put_at_index w.word l (Plain a b)) e ∙ put_here w.word l (Plain a b)
 
   own_less : (i : ℕ) → i < MOST → own_line_left (freed w l (Plain a b)) nothing f k i < own_line_left w nothing f k i → Fewer
   own_less i low e =

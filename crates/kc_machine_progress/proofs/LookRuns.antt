@@ -2,7 +2,7 @@
 use Rattle.kc_machine_answers.proofs.kc_machine.Functions.{put_here}
 use Rattle.kc_machine_answers.specs.kc_machine.Machine.{Opening, State, World, found_at, run, touched}
 use Rattle.kc_machine_answers.specs.kc_machine.Schedules.{IsSchedule}
-use Rattle.kc_machine_answers.specs.kc_machine.Seats.{access_of, after, answer_by, answer_of, is_idle, work_access}
+use Rattle.kc_machine_answers.specs.kc_machine.Seats.{access_of, seat_after, answer_by, seat_answered, is_idle, work_access}
 use Rattle.kc_machine_answers.specs.kc_machine.Works as work
 use Rattle.kc_machine_answers.specs.kc_machine.Works.{Work}
 use Rattle.kc_machine_answers.specs.kc_machine.declared.seat.Seat.{Seat}
@@ -120,7 +120,7 @@ module _ (o : Opening) (k : ℕ) (l : k < o.callers) (free : ℕ) (there : free 
     goes : (q : LookStep) → s.work ≡ work.Look (record t { step = q }) → LookKnows loc q → look_left v q < left → Moves v s t left
     saw : (r : Seen) → s.work ≡ work.Idle → s.told ≡ Some (told.Seen r) → IsSeenAt loc r → 1 ≤ left → Moves v s t left
 
-  next_moves : (v : World) (s : Seat) (t : Look) (left : ℕ) (b : Bool) → b ≡ false → (x : LookNext) → NextKnows loc x → LookGoes v left x → Moves v (after (record s { work = work.Look (looks_on t x) }) (told_by b x)) t left
+  next_moves : (v : World) (s : Seat) (t : Look) (left : ℕ) (b : Bool) → b ≡ false → (x : LookNext) → NextKnows loc x → LookGoes v left x → Moves v (seat_after (record s { work = work.Look (looks_on t x) }) (told_by b x)) t left
   next_moves v s t left true e x z y = absurd (cc)
   next_moves v s t left false e (looking.Goes q) z y = goes q refl z y
   next_moves v s t left false e (looking.Saw r) z y = saw r refl refl z y
@@ -151,10 +151,10 @@ module _ (o : Opening) (k : ℕ) (l : k < o.callers) (free : ℕ) (there : free 
     busy = ap is_idle x.is
 
     abbrev answered : Seat
-    answered = after (record s { work = work.Look (looks_on t next) }) (told_by t.halted next)
+    answered = seat_after (record s { work = work.Look (looks_on t next) }) (told_by t.halted next)
 
     seat : (run o es').seats k ≡ answered
-    seat = ap (λ (m : State). m.seats k) (steps_happen o es x.schedule k l busy) ∙ put_here m.seats k (answer_of s (found_at w (access_of s))) ∙ ap (λ y. answer_by s (found_at w (work_access s.caller s.calls y)) y) x.is
+    seat = ap (λ (m : State). m.seats k) (steps_happen o es x.schedule k l busy) ∙ put_here m.seats k (seat_answered s (found_at w (access_of s))) ∙ ap (λ y. answer_by s (found_at w (work_access s.caller s.calls y)) y) x.is
 
     world : (run o es').world ≡ v
     world = ap (λ (m : State). m.world) (steps_happen o es x.schedule k l busy) ∙ ap (λ y. touched w (work_access s.caller s.calls y)) x.is

@@ -5,7 +5,7 @@ use Rattle.kc_machine_progress.proofs.Left.{is_last}
 use Rattle.kc_machine_progress.proofs.Modes.{is_before, is_out, spare}
 use Rattle.kc_machine_answers.specs.kc_machine_invariants.Fits.{FollowsOr, IsInstalledAt}
 use Rattle.kc_machine_answers.specs.kc_machine_steps.Aids.{after_pass}
-use Rattle.kc_machine_answers.specs.kc_machine_steps.Lines.{after_line, next_line, word_of}
+use Rattle.kc_machine_answers.specs.kc_machine_steps.Lines.{after_line, next_line, reference_word}
 use Rattle.kc_machine_answers.specs.kc_machine_steps.Looks.{reference_of}
 use Rattle.kc_machine_answers.specs.kc_machine_steps.Passes.{check_access, check_first_found, check_found, check_next, check_or_decide, crossed_or_first, fits, from_check, from_install, from_release, install_access, install_found, install_next, install_or_check, pass_access, pass_next, refers_to, release_or_finish}
 use Rattle.kc_model.specs.declared.footprint.Line.{Line}
@@ -61,7 +61,7 @@ install_before m xs k = go (next_line Installed m xs k)
 
 pub data InstallEnds (w v : World) (h : Handle) (xs : List Line) (k : ℕ) (n : PassNext) : Type 0 where
   goes : (q : PassStep) → n ≡ pass.Goes q → is_before q ≡ true → InstallEnds w v h xs k n
-  meets : (q : Reference) (x : Line) → n ≡ pass.Met k q → v ≡ w → slice_get xs k ≡ Some x → w.word x.seen.loc.0 ≡ word_of q.handle q.line → refers_to h k q ≡ false → InstallEnds w v h xs k n
+  meets : (q : Reference) (x : Line) → n ≡ pass.Met k q → v ≡ w → slice_get xs k ≡ Some x → w.word x.seen.loc.0 ≡ reference_word q.handle q.line → refers_to h k q ≡ false → InstallEnds w v h xs k n
 
 pub installs_to : (w : World) (h : Handle) (m : Mode) (xs : List Line) (k : ℕ) → IsInstalledAt m xs k → InstallEnds w (touched w (install_access h k (slice_get xs k))) h xs k (install_next h m xs k (found_at w (install_access h k (slice_get xs k))))
 installs_to w h m xs k (x, e, q, l) = by (slice_get xs k) e refl
@@ -71,7 +71,7 @@ installs_to w h m xs k (x, e, q, l) = by (slice_get xs k) e refl
     by (Some y) e s = at (w.word y.seen.loc.0) refl
       where
         after : Word → World
-        after z = record w { word = put_some w.word y.seen.loc.0 (stored_word (touch.CompareExchange (Plain y.seen.version y.seen.value) (word_of h k)) z) }
+        after z = record w { word = put_some w.word y.seen.loc.0 (stored_word (touch.CompareExchange (Plain y.seen.version y.seen.value) (reference_word h k)) z) }
 
         at : (z : Word) → w.word y.seen.loc.0 ≡ z → InstallEnds w (after z) h xs k (install_found h m xs k (found.Word z) (Some y))
         at (Plain a b) z = go (fits a b y)

@@ -9,7 +9,7 @@ use Rattle.kc_machine_progress.proofs.Tallies.{cond_one, every}
 use Rattle.kc_machine_answers.proofs.kc_machine_invariants.Sums.{sum_below_part}
 use Rattle.kc_machine_answers.specs.kc_machine_invariants.Holds.{Hold, Proper}
 use Rattle.kc_machine_answers.specs.kc_machine_traces.Lines.{IsInstalledLine, IsLastLife}
-use Rattle.kc_machine_answers.specs.kc_machine_steps.Lines.{word_of}
+use Rattle.kc_machine_answers.specs.kc_machine_steps.Lines.{reference_word}
 use Rattle.kc_machine_answers.specs.kc_machine_steps.Passes.{status}
 use Rattle.kc_machine_answers.specs.kc_machine_steps.declared.aid.AidNext.{AidNext}
 use Rattle.kc_machine_answers.specs.kc_machine_steps.declared.aid.AidStep.{AidStep}
@@ -108,7 +108,7 @@ module _ (n : ℕ) (at : ℕ → Hold) (f : ℕ) where
 
   -- its reference stands at location l
   abbrev pub Stands : World → ℕ → Reference → Type 0
-  Stands w l r = w.word l ≡ word_of r.handle r.line
+  Stands w l r = w.word l ≡ reference_word r.handle r.line
 
   abbrev pub IsLive : World → Reference → Type 0
   IsLive w r = w.status r.handle.descriptor ≡ status r.handle.generation Active

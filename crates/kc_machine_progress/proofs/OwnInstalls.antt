@@ -1,6 +1,6 @@
 -- An own pass alone, at an install.
 use Rattle.kc_machine_answers.proofs.kc_machine.Functions.{put_cases}
-use Rattle.kc_machine_answers.specs.kc_machine.Machine.{World, found_at, put, put_some, touched}
+use Rattle.kc_machine_answers.specs.kc_machine.Machine.{World, found_at, put_at_index, put_some, touched}
 use Rattle.kc_machine_answers.specs.kc_machine.Words.{stored_word}
 use Rattle.kc_machine_progress.proofs.Chains.{chain_most, in_line_is, in_line_of}
 use Rattle.kc_machine_progress.proofs.Covers.{is_left_of, left_of, or_mono}
@@ -18,7 +18,7 @@ use Rattle.kc_machine_answers.proofs.kc_machine_traces.Targets.{Target}
 use Rattle.kc_machine_answers.specs.kc_machine_traces.Lines.{IsInstalledLine, IsLastLife}
 use Rattle.kc_machine_answers.specs.kc_machine_invariants.Started.{line_of_words}
 use Rattle.kc_machine_answers.specs.kc_machine_invariants.Fits.{IsInstalledAt}
-use Rattle.kc_machine_answers.specs.kc_machine_steps.Lines.{after_line, is_installed, next_line, word_of}
+use Rattle.kc_machine_answers.specs.kc_machine_steps.Lines.{after_line, is_installed, next_line, reference_word}
 use Rattle.kc_machine_answers.specs.kc_machine_steps.Looks.{reference_of}
 use Rattle.kc_machine_answers.specs.kc_machine_steps.Passes.{check_or_decide, fits, from_check, from_install, install_access, install_found, install_next, install_or_check, refers_to}
 use Rattle.kc_machine_answers.specs.kc_machine_steps.declared.aid.Aided.{Aided}
@@ -51,7 +51,7 @@ OwnPaid n at v f old _ = Unit {0}
 
 pub data OwnEnds (n : ℕ) (at : ℕ → Hold) (w v : World) (h : Handle) (xs : List Line) (k : ℕ) (x : PassNext) : Type 0 where
   passes : (q : PassStep) → x ≡ pass.Goes q → OwnPaid n at v h.descriptor (paid n at h.descriptor w nothing k) q → OwnEnds n at w v h xs k x
-  stops : (q : Reference) (l : Line) → x ≡ pass.Met k q → v ≡ w → slice_get xs k ≡ Some l → w.word l.seen.loc.0 ≡ word_of q.handle q.line → OwnEnds n at w v h xs k x
+  stops : (q : Reference) (l : Line) → x ≡ pass.Met k q → v ≡ w → slice_get xs k ≡ Some l → w.word l.seen.loc.0 ≡ reference_word q.handle q.line → OwnEnds n at w v h xs k x
 
 check_paid : (n : ℕ) (at : ℕ → Hold) (v : World) (f old : ℕ) (m : Mode) (xs : List Line) (k : ℕ) → OwnPaid n at v f old (from_check m xs k)
 check_paid n at v f old m xs k = go (next_line Checked m xs k)
@@ -70,14 +70,14 @@ module _ (n : ℕ) (at : ℕ → Hold) (w : World) (h : Handle) (ground : Ground
       let b = t.lines in
       in_line_is w f k (omega (arith, l, b), y.3, subst (λ b. is_installed b (line_of_words w f k) ≡ true) (sym t.says) (subst (λ b. is_installed m b ≡ true) (sym (t.line k y.0 y.1)) y.2))
 
-  module _ (g : ℕ → Word) (words : (p : ℕ) → (g p ≡ w.word p) ⊎ (g p ≡ word_of h k)) (j : ℕ) (after : k < j) (skipped : (i : ℕ) → k < i → i < j → i < MOST → in_line w f i ≡ true → ⊥) where
+  module _ (g : ℕ → Word) (words : (p : ℕ) → (g p ≡ w.word p) ⊎ (g p ≡ reference_word h k)) (j : ℕ) (after : k < j) (skipped : (i : ℕ) → k < i → i < j → i < MOST → in_line w f i ≡ true → ⊥) where
     abbrev v : World
     v = record w { word = g }
 
     left_still : (l : ℕ) → is_left v nothing f (g l) ≡ true → is_left w nothing f (w.word l) ≡ true
     left_still l e = by (words l)
       where
-        by : (g l ≡ w.word l) ⊎ (g l ≡ word_of h k) → is_left w nothing f (w.word l) ≡ true
+        by : (g l ≡ w.word l) ⊎ (g l ≡ reference_word h k) → is_left w nothing f (w.word l) ≡ true
         by (inl q) = ap (is_left w nothing f) (sym q) ∙ e
         by (inr q) =
             let z = (left_of w nothing f h.generation f k (ap (is_left w nothing f) (sym q) ∙ e)).foreign in
@@ -87,7 +87,7 @@ module _ (n : ℕ) (at : ℕ → Hold) (w : World) (h : Handle) (ground : Ground
     pending_still : (i : ℕ) → i ≢ k → is_pending v nothing f i ≡ true → is_pending w nothing f i ≡ true
     pending_still i ne = or_mono _ _ _ _ (λ z. z) (refers (words (place_of w f i)))
       where
-        refers : (g (place_of w f i) ≡ w.word (place_of w f i)) ⊎ (g (place_of w f i) ≡ word_of h k) → refers_line f i (g (place_of w f i)) ≡ true → refers_line f i (w.word (place_of w f i)) ≡ true
+        refers : (g (place_of w f i) ≡ w.word (place_of w f i)) ⊎ (g (place_of w f i) ≡ reference_word h k) → refers_line f i (g (place_of w f i)) ≡ true → refers_line f i (w.word (place_of w f i)) ≡ true
         refers (inl q) e = ap (refers_line f i) (sym q) ∙ e
         refers (inr q) e = let z = both _ _ (ap (refers_line f i) (sym q) ∙ e) in absurd (ne (sym (eqb-true k i z.1)))
 
@@ -120,7 +120,7 @@ module _ (n : ℕ) (at : ℕ → Hold) (w : World) (h : Handle) (ground : Ground
         price_le (each n at f) _ _ _ _ (sum_le _ _ _ _ a b) (omega arith)
 
   -- to the next install, over words that are still or refer to this line
-  goes_own : (g : ℕ → Word) → ((p : ℕ) → (g p ≡ w.word p) ⊎ (g p ≡ word_of h k)) → OwnPaid n at (record w { word = g }) f (paid n at f w nothing k) (from_install m xs (after_line k))
+  goes_own : (g : ℕ → Word) → ((p : ℕ) → (g p ≡ w.word p) ⊎ (g p ≡ reference_word h k)) → OwnPaid n at (record w { word = g }) f (paid n at f w nothing k) (from_install m xs (after_line k))
   goes_own g words = go (next_line Installed m xs (after_line k)) refl (next_skips Installed m xs (after_line k))
     where
       one : after_line k ≡ k + 1
@@ -145,11 +145,11 @@ module _ (n : ℕ) (at : ℕ → Hold) (w : World) (h : Handle) (ground : Ground
           after_word : Option Word → World
           after_word z = record w { word = put_some w.word x.seen.loc.0 z }
 
-          at_word : (z : Word) → w.word x.seen.loc.0 ≡ z → OwnEnds n at w (after_word (stored_word (touch.CompareExchange (Plain x.seen.version x.seen.value) (word_of h k)) z)) h xs k (install_found h m xs k (found.Word z) (Some x))
+          at_word : (z : Word) → w.word x.seen.loc.0 ≡ z → OwnEnds n at w (after_word (stored_word (touch.CompareExchange (Plain x.seen.version x.seen.value) (reference_word h k)) z)) h xs k (install_found h m xs k (found.Word z) (Some x))
           at_word (Plain a b) z = go (fits a b x)
             where
-              go : (c : Bool) → OwnEnds n at w (after_word (if c then Some (word_of h k) else None)) h xs k (if c then pass.Goes (from_install m xs (after_line k)) else pass.Goes (Decide (Failed k)))
-              go true = passes _ refl (goes_own (put w.word x.seen.loc.0 (word_of h k)) (λ p. put_cases (λ z. (z ≡ w.word p) ⊎ (z ≡ word_of h k)) w.word x.seen.loc.0 (word_of h k) p (λ q. inr refl) (λ q. inl refl)))
+              go : (c : Bool) → OwnEnds n at w (after_word (if c then Some (reference_word h k) else None)) h xs k (if c then pass.Goes (from_install m xs (after_line k)) else pass.Goes (Decide (Failed k)))
+              go true = passes _ refl (goes_own (put_at_index w.word x.seen.loc.0 (reference_word h k)) (λ p. put_cases (λ z. (z ≡ w.word p) ⊎ (z ≡ reference_word h k)) w.word x.seen.loc.0 (reference_word h k) p (λ q. inr refl) (λ q. inl refl)))
               go false = passes _ refl tt
           at_word (Ref g d j) z = go (refers_to h k (reference_of g d j))
             where
@@ -158,7 +158,7 @@ module _ (n : ℕ) (at : ℕ → Hold) (w : World) (h : Handle) (ground : Ground
               go false = stops (reference_of g d j) x refl refl s z
 
   -- on to what it has met
-  pub own_meets : (c : ℕ → Control) (q : Reference) (l : Line) (a : Aided) (old : ℕ) → 1 ≤ n → slice_get xs k ≡ Some l → w.word l.seen.loc.0 ≡ word_of q.handle q.line → paid n at f w nothing k ≤ old
+  pub own_meets : (c : ℕ → Control) (q : Reference) (l : Line) (a : Aided) (old : ℕ) → 1 ≤ n → slice_get xs k ≡ Some l → w.word l.seen.loc.0 ≡ reference_word q.handle q.line → paid n at f w nothing k ≤ old
       → (u : ℕ) × Stance n at f 0 (record w { control = c }) k q aid.Hold u × (u + aid_left (record w { control = c }) q a aid.Hold < old)
   own_meets c q l a old some e s p = goes_to n at f w ground 0 c k l.seen.loc.0 q a old (omega arith) s frees on off
     where

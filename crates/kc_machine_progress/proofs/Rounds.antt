@@ -6,7 +6,7 @@ use Rattle.kc_machine_progress.proofs.Tallies.{cond_le, every, sum_below_le, sum
 use Rattle.kc_machine_answers.proofs.kc_machine_invariants.Tests.{both, status_active}
 use Rattle.kc_machine_answers.specs.kc_machine_invariants.Holds.{Hold, NoHold, Proper, Stray, sum_below}
 use Rattle.kc_machine_answers.specs.kc_machine_invariants.Started.{line_of_words}
-use Rattle.kc_machine_answers.specs.kc_machine_steps.Lines.{is_installed, joined}
+use Rattle.kc_machine_answers.specs.kc_machine_steps.Lines.{is_installed, line_of_halves}
 use Rattle.kc_machine_answers.specs.kc_machine_steps.Passes.{status}
 use Rattle.kc_machine_answers.specs.kc_machine_words.declared.words.Phase.TheVariants.{Active}
 use Rattle.kc_model.specs.declared.word.Word.{Word}
@@ -111,7 +111,7 @@ live_still w v (Stray d g) f e = absurd (cc)
 module _ (w v : World) (x y : Cover) (f : ℕ) (owner : v.owner ≡ w.owner) (first : v.first ≡ w.first) (second : v.second ≡ w.second) (live : (d g : ℕ) → v.status d ≡ status g Active → w.status d ≡ status g Active)
     (left : (l : ℕ) → is_left v y f (v.word l) ≡ true → is_left w x f (w.word l) ≡ true) where
   line_in_by : (d t : ℕ) → in_line v d t ≡ in_line w d t
-  line_in_by d t i = nat_lt t (owner i d).lines && is_installed (owner i d).mode (joined (first i d t) (second i d t))
+  line_in_by d t i = nat_lt t (owner i d).lines && is_installed (owner i d).mode (line_of_halves (first i d t) (second i d t))
 
   place_by : (d t : ℕ) → place_of v d t ≡ place_of w d t
   place_by d t i = (second i d t).loc
@@ -142,7 +142,7 @@ weight_le a b l m p q f g h =
 
 module _ (w v : World) (x y : Cover) (f : ℕ) (c : Calm w v x y f) where
   same_line_in : (d t : ℕ) → in_line v d t ≡ in_line w d t
-  same_line_in d t i = nat_lt t (c.owner i d).lines && is_installed (c.owner i d).mode (joined (c.first i d t) (c.second i d t))
+  same_line_in d t i = nat_lt t (c.owner i d).lines && is_installed (c.owner i d).mode (line_of_halves (c.first i d t) (c.second i d t))
 
   same_place : (d t : ℕ) → place_of v d t ≡ place_of w d t
   same_place d t i = (c.second i d t).loc

@@ -1,14 +1,14 @@
 -- Each step of a seat leaves fewer, tells, or begins an aid.
-use Rattle.kc_machine_answers.specs.kc_machine_steps.Swaps.{exchange_next, may_swap, onward_of as onward_of_swap, swap_access, swap_access_at, swap_next, swap_next_at, swaps_on}
+use Rattle.kc_machine_answers.specs.kc_machine_steps.Swaps.{exchange_next, may_swap, onward_of_swap, swap_access, swap_access_at, swap_next, swap_next_at, swaps_on}
 use Rattle.kc_machine_answers.specs.kc_machine_steps.declared.swap.Swap.{Swap}
 use Rattle.kc_machine_answers.specs.kc_machine_steps.declared.swap.SwapStep.{SwapStep}
 use Rattle.kc_machine_answers.specs.kc_machine_steps.declared.swap.SwapStep.TheVariants as swap
 use Rattle.kc_machine_answers.specs.kc_machine_steps.declared.swap.SwapNext.{SwapNext}
 use Rattle.kc_machine_answers.specs.kc_machine_steps.declared.swap.SwapNext.TheVariants as swapping
 use Rattle.kc_machine_answers.proofs.kc_machine.Functions.{put_here}
-use Rattle.kc_machine_answers.specs.kc_machine.Hangs.{after_clear, after_set, clear_or_changed, hang_access, hang_access_of, hang_next, hangs_on, leave_access, leaves_on, look_goes_on, look_of, look_or_end, looked, next_read, onward_of, read_of, set_or_look, unblocks_or_tells}
+use Rattle.kc_machine_answers.specs.kc_machine.Hangs.{after_clear, after_set, clear_or_changed, hang_access, hang_access_of, hang_next, hangs_on, leave_access, leaves_on, look_goes_on, hang_look_next, look_or_end, version_looked, next_read, onward_of, read_of, set_or_look, unblocks_or_tells}
 use Rattle.kc_machine_answers.specs.kc_machine.Machine.{Opening, State, World, found_at, put_some, touched}
-use Rattle.kc_machine_answers.specs.kc_machine.Seats.{access_of, after, answer_by, answer_of, is_idle, work_access}
+use Rattle.kc_machine_answers.specs.kc_machine.Seats.{access_of, seat_after, answer_by, seat_answered, is_idle, work_access}
 use Rattle.kc_machine_answers.specs.kc_machine.Waits.{Hang, Leave}
 use Rattle.kc_machine_answers.specs.kc_machine.Words.{control}
 use Rattle.kc_machine_answers.specs.kc_machine.Works.{Work}
@@ -278,7 +278,7 @@ module _ (w : World) (fresh : (l g d i : ℕ) → w.word l ≡ Ref g d i → (w.
         go None = tt
         go (Some s) = let d = one_after k l in omega (arith, d)
 
-    sees : (v : World) (k x y old : ℕ) → k < MOST → MOST + 9 * (MOST - 1 - k) < old → HangGoes v old (looked reads k x y)
+    sees : (v : World) (k x y old : ℕ) → k < MOST → MOST + 9 * (MOST - 1 - k) < old → HangGoes v old (version_looked reads k x y)
     sees v k x y old l m = go (y == x)
       where
         on : (o : Option Seen) → slice_get reads (after_line k) ≡ o → HangGoes v old (look_or_end (after_line k) o)
@@ -295,7 +295,7 @@ module _ (w : World) (fresh : (l g d i : ℕ) → w.word l ≡ Ref g d i → (w.
         s : Seen
         s = (is_there reads k l).0
 
-        by : (o : Option Seen) → o ≡ Some s → HangGoes (touched w (hang_access_of caller (hang.Look k step) o)) (MOST + 9 * (MOST - 1 - k) + look_left w step) (look_of reads k step (found_at w (hang_access_of caller (hang.Look k step) o)) o)
+        by : (o : Option Seen) → o ≡ Some s → HangGoes (touched w (hang_access_of caller (hang.Look k step) o)) (MOST + 9 * (MOST - 1 - k) + look_left w step) (hang_look_next reads k step (found_at w (hang_access_of caller (hang.Look k step) o)) o)
         by None e = absurd (cc)
         by (Some x) e = go (look_next x.loc step (found_at w (look_access x.loc step))) (look_falls x.loc step)
           where
@@ -387,7 +387,7 @@ module _ (o : Opening) (m : State) (k : ℕ) (knows : Knows o m k) (e : ℕ) (th
       v : World
       v = touched w (look_access l.loc l.step)
 
-      go : (b : Bool) (x : LookNext) → LookGoes v (look_left w l.step) x → Goes n e v (after (record s { work = work.Look (looks_on l x) }) (told_by b x)) (look_left w l.step)
+      go : (b : Bool) (x : LookNext) → LookGoes v (look_left w l.step) x → Goes n e v (seat_after (record s { work = work.Look (looks_on l x) }) (told_by b x)) (look_left w l.step)
       go true x y = tells refl
       go false (looking.Goes q) y = falls y (λ u. absurd (cc)) refl
       go false (looking.Saw seen) y = tells refl
@@ -398,7 +398,7 @@ module _ (o : Opening) (m : State) (k : ℕ) (knows : Knows o m k) (e : ℕ) (th
       v : World
       v = touched w (hang_access s.caller h)
 
-      go : (x : HangNext) → HangGoes w knows.fresh v (hang_left w h.step) x → Goes n e v (after (record s { work = work.Hang (hangs_on h x) }) (onward_of x)) (hang_left w h.step)
+      go : (x : HangNext) → HangGoes w knows.fresh v (hang_left w h.step) x → Goes n e v (seat_after (record s { work = work.Hang (hangs_on h x) }) (onward_of x)) (hang_left w h.step)
       go (hanging.Goes q) y = falls y (λ u. absurd (cc)) refl
       go (hanging.Tells t) y = tells refl
 
@@ -412,7 +412,7 @@ module _ (o : Opening) (m : State) (k : ℕ) (knows : Knows o m k) (e : ℕ) (th
       less leave.Unsignal f x q = omega arith
       less (leave.Clear j) f x q = let a = f.1 in let d = one_after j (omega (arith, a, few)) in omega (arith, a, few, d)
 
-      go : (x : Option Seen) → slice_get l.reads.items (next_read l.step) ≡ x → Goes n e v (after (record s { work = work.Leave (leaves_on l (next_read l.step) x) }) (unblocks_or_tells x)) (free_left l.step)
+      go : (x : Option Seen) → slice_get l.reads.items (next_read l.step) ≡ x → Goes n e v (seat_after (record s { work = work.Leave (leaves_on l (next_read l.step) x) }) (unblocks_or_tells x)) (free_left l.step)
       go None q = tells refl
       go (Some x) q = falls (less l.step f x q) (λ u. absurd (cc)) refl
 
@@ -434,7 +434,7 @@ module _ (o : Opening) (m : State) (k : ℕ) (knows : Knows o m k) (e : ℕ) (th
           let u : owed < 2 ^ 64 = omega (arith, p, z) in
           (u, lowest_low owed u y.1)
 
-      go : (x : Next) → NextGoes n e v (loaded c found_there).copy (stage_left n e w c.copy c.stage) x → Goes n e v (after (record s { work = work.Commit (gone_on (loaded c found_there) x) }) (onward_by x)) (stage_left n e w c.copy c.stage)
+      go : (x : Next) → NextGoes n e v (loaded c found_there).copy (stage_left n e w c.copy c.stage) x → Goes n e v (seat_after (record s { work = work.Commit (gone_on (loaded c found_there) x) }) (onward_by x)) (stage_left n e w c.copy c.stage)
       go (next.Goes x) (inl y) = begins y
       go (next.Goes x) (inr y) = falls y.0 y.1 refl
       go (next.Takes x) (inl y) = begins y
@@ -453,7 +453,7 @@ module _ (o : Opening) (m : State) (k : ℕ) (knows : Knows o m k) (e : ℕ) (th
           let p : 2 ^ o.callers ≤ 2 ^ 64 = pow-le-pow_right (omega arith) knows.callers in
           omega (arith, p, z)
 
-      go : (z : SwapNext) → SwapGoes (swap_left x.step) z → Goes n e v (after (record s { work = work.Swap (swaps_on x z) }) (onward_of_swap z)) (swap_left x.step)
+      go : (z : SwapNext) → SwapGoes (swap_left x.step) z → Goes n e v (seat_after (record s { work = work.Swap (swaps_on x z) }) (onward_of_swap z)) (swap_left x.step)
       go (swapping.Goes step) y = falls y (λ u. absurd (cc)) refl
       go (swapping.Takes step) y = falls y (λ u. absurd (cc)) refl
       go (swapping.Tells t) y = tells refl
@@ -467,4 +467,4 @@ module _ (o : Opening) (m : State) (k : ℕ) (knows : Knows o m k) (e : ℕ) (th
   comes (work.Swap x) a b c d f g h v i = swap_comes x g
 
   pub seat_falls : is_idle s.work ≡ false → Goes n e (one_step m k).world ((one_step m k).seats k) (work_left n e w s.work)
-  seat_falls i = subst (λ x. Goes n e (touched w (access_of s)) x (work_left n e w s.work)) (sym (put_here m.seats k (answer_of s (found_at w (access_of s))))) (comes s.work knows.fits knows.formed knows.intents knows.reads knows.stands knows.ranges knows.searches free i)
+  seat_falls i = subst (λ x. Goes n e (touched w (access_of s)) x (work_left n e w s.work)) (sym (put_here m.seats k (seat_answered s (found_at w (access_of s))))) (comes s.work knows.fits knows.formed knows.intents knows.reads knows.stands knows.ranges knows.searches free i)

@@ -8,7 +8,7 @@ use Rattle.kc_machine_progress.proofs.Tallies.{every}
 use Rattle.kc_machine_answers.specs.kc_machine_invariants.Holds.{Hold}
 use Rattle.kc_machine_answers.specs.kc_machine_invariants.Fits.{AidFits, StepFits}
 use Rattle.kc_machine_answers.specs.kc_machine_steps.Aids.{aid_access}
-use Rattle.kc_machine_answers.specs.kc_machine_steps.Lines.{first_of, resolved_value, resolved_version, second_of, word_of}
+use Rattle.kc_machine_answers.specs.kc_machine_steps.Lines.{first_of, resolved_value, resolved_version, second_of, reference_word}
 use Rattle.kc_machine_answers.specs.kc_machine_steps.Passes.{check_access, decide_access, install_access, pass_access, release_at}
 use Rattle.kc_machine_answers.specs.kc_machine_steps.declared.aid.AidStep.{AidStep}
 use Rattle.kc_machine_answers.specs.kc_machine_steps.declared.aid.AidStep.TheVariants as aid
@@ -70,11 +70,11 @@ module _ (n : ℕ) (at : ℕ → Hold) (f : ℕ) (w : World) (ground : Ground n 
     module _ (a : Aided) where
       installs : (j : ℕ) → StepFits false checked.Leave a.owner.mode a.lines.items (Install j) → (r.handle.descriptor == e) ≡ false → Keeps (touched w (install_access r.handle j (slice_get a.lines.items j)))
       installs j y o = subst (λ x. Keeps (touched w (install_access r.handle j x))) (sym y.1)
-          (refl, cas_cases (λ z. refers_line e t z ≡ false) w y.0.seen.loc (Plain y.0.seen.version y.0.seen.value) (word_of r.handle j) place (λ b. shut) (λ b d. shut) (λ b d. rw o refl))
+          (refl, cas_cases (λ z. refers_line e t z ≡ false) w y.0.seen.loc (Plain y.0.seen.version y.0.seen.value) (reference_word r.handle j) place (λ b. shut) (λ b d. shut) (λ b d. rw o refl))
 
       releases : (j : ℕ) (p : Phase) (x : Option Line) → Keeps (touched w (release_at r.handle j p x))
       releases j p None = (refl, shut)
-      releases j p (Some x) = (refl, cas_cases (λ z. refers_line e t z ≡ false) w x.seen.loc (word_of r.handle j) (Plain (resolved_version (first_of x) p) (resolved_value (first_of x) (second_of x).after p)) place (λ b. shut) (λ b d. shut) (λ b d. refl))
+      releases j p (Some x) = (refl, cas_cases (λ z. refers_line e t z ≡ false) w x.seen.loc (reference_word r.handle j) (Plain (resolved_version (first_of x) p) (resolved_value (first_of x) (second_of x).after p)) place (λ b. shut) (λ b d. shut) (λ b d. refl))
 
       checks : (x : Option Line) → Keeps (touched w (check_access x))
       checks None = (refl, shut)

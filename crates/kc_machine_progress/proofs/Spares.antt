@@ -1,6 +1,6 @@
 -- Of two descriptors that can be taken a commit takes one at most, and leaves the generation of the other.
 use Rattle.kc_machine_answers.proofs.kc_machine.Functions.{put_cases, put_else}
-use Rattle.kc_machine_answers.specs.kc_machine.Machine.{World, found_at, put, put_some, touched}
+use Rattle.kc_machine_answers.specs.kc_machine.Machine.{World, found_at, put_at_index, put_some, touched}
 use Rattle.kc_machine_answers.specs.kc_machine.Words.{control, gripped}
 use Rattle.kc_machine_progress.proofs.Left.{takes}
 use Rattle.kc_machine_answers.specs.kc_machine_commits.Commits.{after_scan, copy_by, fill_first, fill_second, own_access, stage_access, stage_next, wake_access}
@@ -49,7 +49,7 @@ generation_stays w access.Nothing y e = refl
 generation_stays w (access.Location l t) y e = refl
 generation_stays w (access.Control d g) y e = by g e
   where
-    same : (holds : ℕ) → (put w.control d (control (w.control d).generation holds) y).generation ≡ (w.control y).generation
+    same : (holds : ℕ) → (put_at_index w.control d (control (w.control d).generation holds) y).generation ≡ (w.control y).generation
     same holds = put_cases (λ (c : Control). c.generation ≡ (w.control y).generation) w.control d (control (w.control d).generation holds) y (λ q. ap (λ x. (w.control x).generation) (sym q)) (λ q. refl)
 
     adds : (b : Bool) → (put_some w.control d (if b then Some (control (w.control d).generation ((w.control d).holds + 1)) else None) y).generation ≡ (w.control y).generation
@@ -179,7 +179,7 @@ module _ (d e g h : ℕ) (ne : d ≢ e) where
     take_spares : (x y : ℕ) → BothKept w → Spares (Take x y)
     take_spares x y k = go (takes w x y)
       where
-        other : (b : Bool) → (x == d) ≡ b → Spared (record w { control = put w.control x (control (y + 1) 1) }) x
+        other : (b : Bool) → (x == d) ≡ b → Spared (record w { control = put_at_index w.control x (control (y + 1) 1) }) x
         other true q =
             let same = eqb-true x d q in
             let apart : e ≢ x = λ z. ne (sym (z ∙ same)) in

@@ -17,8 +17,8 @@ use Rattle.kc_machine_answers.specs.kc_machine_traces.Lines.{IsInstalledLine, Is
 use Rattle.kc_machine_answers.specs.kc_machine_traces.Phases.{StepKnows}
 use Rattle.kc_machine_answers.specs.kc_machine_invariants.Started.{line_of_words}
 use Rattle.kc_machine_answers.specs.kc_machine_invariants.Fits.{AidFits, IsCheckedAt, IsInstalledAt}
-use Rattle.kc_machine_answers.specs.kc_machine_steps.Aids.{after_pass, aid_access, aid_copy, aid_next, drop_or_release, load_next, owner_or_first}
-use Rattle.kc_machine_answers.specs.kc_machine_steps.Lines.{after_line, first_of, is_installed, resolved_value, resolved_version, second_of, word_of}
+use Rattle.kc_machine_answers.specs.kc_machine_steps.Aids.{after_pass, aid_access, aid_copy, aid_next, drop_or_release, aid_load_next, owner_or_first}
+use Rattle.kc_machine_answers.specs.kc_machine_steps.Lines.{after_line, first_of, is_installed, resolved_value, resolved_version, second_of, reference_word}
 use Rattle.kc_machine_answers.specs.kc_machine_steps.Passes.{check_access, decide_access, decided_as, from_install, from_release, install_access, install_next, pass_access, pass_next, refers_to}
 use Rattle.kc_machine_answers.specs.kc_machine_steps.declared.aid.AidNext.{AidNext}
 use Rattle.kc_machine_answers.specs.kc_machine_steps.declared.aid.AidStep.{AidStep}
@@ -170,7 +170,7 @@ module _ (n : ℕ) (at : ℕ → Hold) (f least : ℕ) (w : World) (ground : Gro
       let z = release_spare a.owner.mode a.lines.items (after_line j) x in
       loose none (omega (arith, m, p, z))
 
-  loose_loads : least ≡ 0 → (s : AidStep) (b : Aided) (old : ℕ) → All w s + 10 * MOST ≤ old → All w (load_next b) ≤ All w s → Stance n at f least w k r (load_next b) old
+  loose_loads : least ≡ 0 → (s : AidStep) (b : Aided) (old : ℕ) → All w s + 10 * MOST ≤ old → All w (aid_load_next b) ≤ All w s → Stance n at f least w k r (aid_load_next b) old
   loose_loads none s b old m = go (nat_lt (length b.lines.items) b.owner.lines)
     where
       go : (t : Bool) → All w (if t then aid.LoadFirst else aid.Pass (from_install b.owner.mode b.lines.items 0)) ≤ All w s → Stance n at f least w k r (if t then aid.LoadFirst else aid.Pass (from_install b.owner.mode b.lines.items 0)) old
@@ -259,12 +259,12 @@ module _ (n : ℕ) (at : ℕ → Hold) (f least : ℕ) (w : World) (ground : Gro
       place : x.seen.loc.0 ≡ l
       place = ap (λ (z : Line). z.seen.loc.0) e ∙ (ground.fit l r.handle.generation c r.line s).2
 
-      word_true : (z : Word) → z ≡ word_of r.handle r.line → word_is z (word_of r.handle r.line) ≡ true
-      word_true z q = by (word_is z (word_of r.handle r.line)) refl
+      word_true : (z : Word) → z ≡ reference_word r.handle r.line → word_is z (reference_word r.handle r.line) ≡ true
+      word_true z q = by (word_is z (reference_word r.handle r.line)) refl
         where
-          by : (b : Bool) → word_is z (word_of r.handle r.line) ≡ b → b ≡ true
+          by : (b : Bool) → word_is z (reference_word r.handle r.line) ≡ b → b ≡ true
           by true u = refl
-          by false u = absurd (word_unequal z (word_of r.handle r.line) u q)
+          by false u = absurd (word_unequal z (reference_word r.handle r.line) u q)
 
   pub freeing_step : (s : AidStep) (old l : ℕ) → StepKnows w r s → Stands n at f w l r → is_active (w.status c).phase ≡ false → Frees n at f w k l → is_single s ≡ true → All w s ≤ old + each n at f → R s old
   freeing_step aid.Hold old l y s d g e m = rw (last_life l s) (freeing l s d g refl m)
@@ -351,7 +351,7 @@ module _ (n : ℕ) (at : ℕ → Hold) (f least : ℕ) (w : World) (ground : Gro
 
   install_keeps : (j l : ℕ) → IsInstalledAt a.owner.mode a.lines.items j → Stands n at f w l r → IsLive n at f w r → Keeps (V (aid.Pass (Install j))) l
   install_keeps j l y s live = subst (λ o. Keeps (touched w (install_access r.handle j o)) l) (sym y.1) (record {
-    stands = cas_cases (λ z. z ≡ word_of r.handle r.line) w y.0.seen.loc (Plain y.0.seen.version y.0.seen.value) (word_of r.handle j) l (λ b. s) (λ b d. s) (λ b d. let z : Plain y.0.seen.version y.0.seen.value ≡ word_of r.handle r.line = sym d ∙ s in absurd (cc));
+    stands = cas_cases (λ z. z ≡ reference_word r.handle r.line) w y.0.seen.loc (Plain y.0.seen.version y.0.seen.value) (reference_word r.handle j) l (λ b. s) (λ b d. s) (λ b d. let z : Plain y.0.seen.version y.0.seen.value ≡ reference_word r.handle r.line = sym d ∙ s in absurd (cc));
     live = live;
     chain_on = chain_installs n at w l r.handle j y.0.seen.loc (Plain y.0.seen.version y.0.seen.value) y.3 (all_stand n at f w ground l r s live);
   })
@@ -433,7 +433,7 @@ module _ (n : ℕ) (at : ℕ → Hold) (f least : ℕ) (w : World) (ground : Gro
       leaving (release_out a.owner.mode a.lines.items 0 (decided_as x (w.status c).phase)) (omega (arith, m, p, b))
   chained_passes (Release j x) old l from y t s live e m = absurd (cc)
 
-  chained_loads : (s : AidStep) (b : Aided) (old l : ℕ) → least ≤ suc l → Stands n at f w l r → IsLive n at f w r → All w s + (3 * MOST + 5) * chain n at w l ≤ old + (each n at f + (9 * MOST - 1)) → All w (load_next b) ≤ All w s → Stance n at f least w k r (load_next b) old
+  chained_loads : (s : AidStep) (b : Aided) (old l : ℕ) → least ≤ suc l → Stands n at f w l r → IsLive n at f w r → All w s + (3 * MOST + 5) * chain n at w l ≤ old + (each n at f + (9 * MOST - 1)) → All w (aid_load_next b) ≤ All w s → Stance n at f least w k r (aid_load_next b) old
   chained_loads s b old l from st live m = go (nat_lt (length b.lines.items) b.owner.lines)
     where
       go : (t : Bool) → All w (if t then aid.LoadFirst else aid.Pass (from_install b.owner.mode b.lines.items 0)) ≤ All w s → Stance n at f least w k r (if t then aid.LoadFirst else aid.Pass (from_install b.owner.mode b.lines.items 0)) old

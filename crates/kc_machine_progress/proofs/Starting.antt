@@ -1,6 +1,6 @@
 -- What there is to pay for rounds before a life starts, at its start, and where a seat comes to own another life or none.
 use Rattle.kc_machine_answers.proofs.kc_machine.Functions.{put_else}
-use Rattle.kc_machine_answers.specs.kc_machine.Machine.{World, put}
+use Rattle.kc_machine_answers.specs.kc_machine.Machine.{World, put_at_index}
 use Rattle.kc_machine_progress.proofs.Covers.{all_of, left_word, or_mono}
 use Rattle.kc_machine_progress.proofs.Left.{is_active}
 use Rattle.kc_machine_progress.proofs.Modes.{each, paid, price, price_le}
@@ -9,7 +9,7 @@ use Rattle.kc_machine_progress.proofs.Rounds.{Cover, in_line, is_left, is_live, 
 use Rattle.kc_machine_progress.proofs.Tallies.{cond_le, cond_most, sum_below_le, sum_below_most, sum_le, sum_le_more, none_le}
 use Rattle.kc_machine_answers.proofs.kc_machine_invariants.Tests.{both, status_active}
 use Rattle.kc_machine_answers.specs.kc_machine_invariants.Holds.{Hold, NoHold, Proper, Stray, sum_below}
-use Rattle.kc_machine_answers.specs.kc_machine_steps.Lines.{is_installed, joined}
+use Rattle.kc_machine_answers.specs.kc_machine_steps.Lines.{is_installed, line_of_halves}
 use Rattle.kc_machine_answers.specs.kc_machine_steps.Passes.{status}
 use Rattle.kc_machine_answers.specs.kc_machine_words.declared.words.First.{First}
 use Rattle.kc_machine_answers.specs.kc_machine_words.declared.words.Owner.{Owner}
@@ -80,7 +80,7 @@ module _ (n : ℕ) (at : ℕ → Hold) (w : World) (e f : ℕ) (idle : is_active
     v = record w { owner = a; first = b; second = c }
 
     line_same : (d t : ℕ) → d ≢ e → in_line v d t ≡ in_line w d t
-    line_same d t q i = nat_lt t (sa d q i).lines && is_installed (sa d q i).mode (joined (sb d q i t) (sc d q i t))
+    line_same d t q i = nat_lt t (sa d q i).lines && is_installed (sa d q i).mode (line_of_halves (sb d q i t) (sc d q i t))
 
     place_same : (d t : ℕ) → d ≢ e → place_of v d t ≡ place_of w d t
     place_same d t q i = (sc d q i t).loc
@@ -120,7 +120,7 @@ module _ (n : ℕ) (at : ℕ → Hold) (w : World) (e f : ℕ) (idle : is_active
 
   module _ (g k : ℕ) (sole : (j h : ℕ) → j < n → at j ≡ Proper e h → j ≡ k) where
     abbrev started : World
-    started = record w { status = put w.status e (status g Active) }
+    started = record w { status = put_at_index w.status e (status g Active) }
 
     abbrev here : Cover
     here = all_of e

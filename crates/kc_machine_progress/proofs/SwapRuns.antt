@@ -2,7 +2,7 @@
 use Rattle.kc_machine_answers.proofs.kc_machine.Functions.{put_here}
 use Rattle.kc_machine_answers.specs.kc_machine.Machine.{Opening, State, World, found_at, run, touched}
 use Rattle.kc_machine_answers.specs.kc_machine.Schedules.{IsSchedule}
-use Rattle.kc_machine_answers.specs.kc_machine.Seats.{access_of, after, answer_by, answer_of, is_idle, work_access}
+use Rattle.kc_machine_answers.specs.kc_machine.Seats.{access_of, seat_after, answer_by, seat_answered, is_idle, work_access}
 use Rattle.kc_machine_answers.specs.kc_machine.Works as work
 use Rattle.kc_machine_answers.specs.kc_machine.declared.seat.Seat.{Seat}
 use Rattle.kc_machine_progress.proofs.Clean.{Rests}
@@ -21,7 +21,7 @@ use Rattle.kc_machine_answers.specs.kc_machine_invariants.Holds.{Hold, NoHold}
 use Rattle.kc_machine_answers.proofs.kc_machine_traces.Runs.{steps_happen}
 use Rattle.kc_machine_answers.specs.kc_machine_traces.Ranges.{CallersIn}
 use Rattle.kc_machine_answers.specs.kc_machine_traces.Seats.{SwapIn, WorkIn}
-use Rattle.kc_machine_answers.specs.kc_machine_steps.Swaps.{may_swap, onward_of, seen_word, swap_access, swap_access_at, swap_next, swaps_on, word_after}
+use Rattle.kc_machine_answers.specs.kc_machine_steps.Swaps.{may_swap, onward_of_swap, seen_word, swap_access, swap_access_at, swap_next, swaps_on, word_after}
 use Rattle.kc_machine_answers.specs.kc_machine_steps.declared.swap.Swap.{Swap}
 use Rattle.kc_machine_answers.specs.kc_machine_steps.declared.swap.SwapNext.{SwapNext}
 use Rattle.kc_machine_answers.specs.kc_machine_steps.declared.swap.SwapNext.TheVariants as swapping
@@ -104,7 +104,7 @@ module _ (o : Opening) (k : ℕ) (l : k < o.callers) (free : ℕ) (there : free 
     goes : (q : SwapStep) → s.work ≡ work.Swap (record t { step = q }) → swap_left q < left → Moves s t left
     tells : (a : Told) → s.work ≡ work.Idle → s.told ≡ Some a → Moves s t left
 
-  next_moves : (s : Seat) (t : Swap) (left : ℕ) (x : SwapNext) → SwapGoes left x → Moves (after (record s { work = work.Swap (swaps_on t x) }) (onward_of x)) t left
+  next_moves : (s : Seat) (t : Swap) (left : ℕ) (x : SwapNext) → SwapGoes left x → Moves (seat_after (record s { work = work.Swap (swaps_on t x) }) (onward_of_swap x)) t left
   next_moves s t left (swapping.Goes q) y = goes q refl y
   next_moves s t left (swapping.Takes q) y = goes q refl y
   next_moves s t left (swapping.Tells a) y = tells a refl refl
@@ -135,10 +135,10 @@ module _ (o : Opening) (k : ℕ) (l : k < o.callers) (free : ℕ) (there : free 
     busy = ap is_idle x.is
 
     abbrev answered : Seat
-    answered = after (record s { work = work.Swap (swaps_on t next) }) (onward_of next)
+    answered = seat_after (record s { work = work.Swap (swaps_on t next) }) (onward_of_swap next)
 
     seat : (run o es').seats k ≡ answered
-    seat = ap (λ (m : State). m.seats k) (steps_happen o es x.schedule k l busy) ∙ put_here m.seats k (answer_of s (found_at w (access_of s))) ∙ ap (λ y. answer_by s (found_at w (work_access s.caller s.calls y)) y) x.is
+    seat = ap (λ (m : State). m.seats k) (steps_happen o es x.schedule k l busy) ∙ put_here m.seats k (seat_answered s (found_at w (access_of s))) ∙ ap (λ y. answer_by s (found_at w (work_access s.caller s.calls y)) y) x.is
 
     world : (run o es').world ≡ v
     world = ap (λ (m : State). m.world) (steps_happen o es x.schedule k l busy) ∙ ap (λ y. touched w (work_access s.caller s.calls y)) x.is

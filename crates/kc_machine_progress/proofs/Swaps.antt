@@ -9,7 +9,7 @@ use Rattle.kc_machine_progress.proofs.Rounds.{nothing}
 use Rattle.kc_machine_progress.proofs.Spares.{BothKept}
 use Rattle.kc_machine_progress.proofs.Starting.{fee, paid_few}
 use Rattle.kc_machine_progress.proofs.Within.{owned_at}
-use Rattle.kc_machine_progress.specs.Attempts.{CanBeTaken, Commits, IsToldBy, is_crossed, makes}
+use Rattle.kc_machine_progress.specs.Attempts.{CanBeTaken, MachineCommits, IsToldBy, is_crossed, makes}
 use Rattle.kc_machine_answers.specs.kc_machine_traces.Claims.{steps}
 use Rattle.kc_machine_answers.specs.kc_machine_steps.declared.task.Event.{Event}
 use Rattle.kc_machine_answers.specs.kc_machine_steps.declared.task.Task.TheVariants as task
@@ -17,7 +17,7 @@ use Rattle.kc_machine_answers.specs.kc_machine_steps.declared.task.Task.{Task}
 use Rattle.kc_machine_answers.specs.kc_machine_steps.declared.task.Told.TheVariants as told
 use Rattle.kc_machine_progress.proofs.Begun.{Begun, Idle, OthersRest, makes_run}
 use Rattle.kc_machine_progress.specs.Swaps as swaps
-use Rattle.kc_machine_progress.specs.Swaps.{IsSwapAttempt, SwapAttemptsEnd, Swaps, put_of}
+use Rattle.kc_machine_progress.specs.Swaps.{IsSwapAttempt, SwapAttemptsEnd, MachineSwaps, swap_footprint}
 use Rattle.kc_machine_answers.proofs.kc_machine_traces.Others.{run_shape}
 use Rattle.kc_machine_answers.specs.kc_machine_words.declared.words.Mode.{Mode}
 use Rattle.kc_model.specs.Footprint.{IsRead, IsWellMade}
@@ -33,7 +33,7 @@ use borrow.Author.Tests.{ltb-false, ltb-true}
 
 -- ---- what a swap reads and puts is well made
 
-put_is_made : (r : Seen) (value : ℕ) → r.version < LAST_VERSION → IsWellMade (put_of r value)
+put_is_made : (r : Seen) (value : ℕ) → r.version < LAST_VERSION → IsWellMade (swap_footprint r value)
 put_is_made r value b = record {
   reads_rise = tt;
   puts_rise = tt;
@@ -56,7 +56,7 @@ module _ (o : Opening) (k : ℕ) (l : k < o.callers) (d e : ℕ) (ne : d ≢ e) 
 
   module _ (fs : List Event) (p : ℕ) (r : Seen) (value : ℕ) (rest : Idle o k l fs p) (kept : BothKept d e g h ne (run o fs).world) (others : OthersRest o k l es fs) (low : r.loc.0 < o.locations) where
     abbrev Swapped : Type 0
-    Swapped = (x : ℕ) × (x ≤ p + 67 + 2 * cost o k l) × Swaps k (run o fs) r value x
+    Swapped = (x : ℕ) × (x ≤ p + 67 + 2 * cost o k l) × MachineSwaps k (run o fs) r value x
 
     module _ (fits : r.version < LAST_VERSION) where
       abbrev t : Task
@@ -71,15 +71,15 @@ module _ (o : Opening) (k : ℕ) (l : k < o.callers) (d e : ℕ) (ne : d ≢ e) 
       swap_told : IsToldBy (run o fs) k t swapped.0 swapped.3.answer
       swap_told = subst (λ (m : State). (m.seats k).told ≡ Some swapped.3.answer) swapped_run swapped.3.told
 
-      well_made : (m : Mode) → IsWellMadeTask o.locations (task.Commit (put_of r value) m)
+      well_made : (m : Mode) → IsWellMadeTask o.locations (task.Commit (swap_footprint r value) m)
       well_made m = (put_is_made r value fits, λ q c. All-contains (λ (q : Seen). q.loc.0 < o.locations) (r ∷ []) q (All-cons (λ (q : Seen). q.loc.0 < o.locations) r [] low (All-nil (λ (q : Seen). q.loc.0 < o.locations))) c, omega arith)
 
       went : (b : Bool) → is_crossed swapped.3.answer ≡ b → Swapped
       went false q = (swapped.0, (let b = swapped.2 in omega (arith, b)), swaps.by_swap swapped.0 swapped.3.answer fits swap_told q)
       went true q =
           let z = swapped.3 in
-          let c = committed o k l d e ne d_there e_there es idle cd ce (Begun o k l fs t ++ steps k swapped.0) swapped.1 (put_of r value) z.rest z.known (λ j u. z.others j u ∙ others j u) well_made in
-          (swapped.0 + c.0, (let a = c.1 in let b = swapped.2 in omega (arith, a, b)), swaps.behind_swap swapped.0 c.0 z.answer fits swap_told q (subst (λ m. Commits k m (put_of r value) c.0) swapped_run c.2))
+          let c = committed o k l d e ne d_there e_there es idle cd ce (Begun o k l fs t ++ steps k swapped.0) swapped.1 (swap_footprint r value) z.rest z.known (λ j u. z.others j u ∙ others j u) well_made in
+          (swapped.0 + c.0, (let a = c.1 in let b = swapped.2 in omega (arith, a, b)), swaps.behind_swap swapped.0 c.0 z.answer fits swap_told q (subst (λ m. MachineCommits k m (swap_footprint r value) c.0) swapped_run c.2))
 
     went_on : r.version ≤ LAST_VERSION → (b : Bool) → nat_lt r.version LAST_VERSION ≡ b → Swapped
     went_on most true q = let a = ltb-true r.version LAST_VERSION q in went a (is_crossed (swapped a).3.answer) refl
@@ -96,7 +96,7 @@ all_swap_attempts_end o es w k d e loc value l idle de cd ce low = (
     looking = seen.0;
     swapping = swapped.0;
     looked = subst (λ (m : State). (m.seats k).told ≡ Some (told.Seen seen.3.seen)) looked seen.3.told;
-    swaps = subst (λ m. Swaps k m seen.3.seen (value seen.3.seen) swapped.0) looked swapped.2;
+    swaps = subst (λ m. MachineSwaps k m seen.3.seen (value seen.3.seen) swapped.0) looked swapped.2;
     counts = refl;
   },
 )
@@ -125,7 +125,7 @@ all_swap_attempts_end o es w k d e loc value l idle de cd ce low = (
     looked : run o (Begun o k l es (task.Look loc) ++ steps k seen.0) ≡ makes (run o es) k (task.Look loc) seen.0
     looked = makes_run o k l es (task.Look loc) seen.0
 
-    swapped : (x : ℕ) × (x ≤ seen.1 + 67 + 2 * (fee n + (10 * MOST + 72 + 3 * n))) × Swaps k (run o (Begun o k l es (task.Look loc) ++ steps k seen.0)) seen.3.seen (value seen.3.seen) x
+    swapped : (x : ℕ) × (x ≤ seen.1 + 67 + 2 * (fee n + (10 * MOST + 72 + 3 * n))) × MachineSwaps k (run o (Begun o k l es (task.Look loc) ++ steps k seen.0)) seen.3.seen (value seen.3.seen) x
     swapped =
         let z = seen.3 in
         went_on o k l d e ne d_there e_there es idle cd ce (Begun o k l es (task.Look loc) ++ steps k seen.0) seen.1 z.seen (value z.seen) z.rest z.known z.others (subst (λ (x : Loc). x.0 < o.locations) (sym z.at_it.0) low) z.at_it.1 (nat_lt z.seen.version LAST_VERSION) refl

@@ -10,7 +10,7 @@ use Rattle.kc_machine_progress.proofs.SeatFalls.{IsFree, round_below}
 use Rattle.kc_machine_progress.proofs.Spares.{BothKept, OneKept}
 use Rattle.kc_machine_progress.proofs.Starting.{fee}
 use Rattle.kc_machine_progress.specs.Attempts as attempts
-use Rattle.kc_machine_progress.specs.Attempts.{CanBeTaken, Commits, IsToldBy, is_crossed, makes}
+use Rattle.kc_machine_progress.specs.Attempts.{CanBeTaken, MachineCommits, IsToldBy, is_crossed, makes}
 use Rattle.kc_machine_answers.specs.kc_machine_traces.Claims.{steps}
 use Rattle.kc_machine_answers.specs.kc_machine_commits.declared.commit.Stage.TheVariants.{Scan}
 use Rattle.kc_machine_answers.specs.kc_machine_steps.Aids.{no_copy}
@@ -162,7 +162,7 @@ module _ (o : Opening) (k : ℕ) (l : k < o.callers) (d e : ℕ) (ne : d ≢ e) 
     again (y, b, z) = commits o k l d e ((run o hs).world.control d).generation ((run o hs).world.control e).generation ne hs first.1 f mode.All y first.3.rest (refl, refl) (made mode.All) b z
 
     abbrev pub Committed : Type 0
-    Committed = (x : ℕ) × (x ≤ p + 2 * cost o k l) × Commits k (run o gs) f x
+    Committed = (x : ℕ) × (x ≤ p + 2 * cost o k l) × MachineCommits k (run o gs) f x
 
     go : (b : Bool) → is_crossed first.3.answer ≡ b → Committed
     go false q = (first.0, (let a = first.2 in omega (arith, a)), attempts.once first.0 first.3.answer first_told q)

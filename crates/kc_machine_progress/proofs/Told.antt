@@ -1,12 +1,12 @@
 -- A seat alone is told within the bound.
-use Rattle.kc_machine_answers.specs.kc_machine_steps.Swaps.{onward_of as onward_of_swap, swap_access, swap_next, swaps_on}
+use Rattle.kc_machine_answers.specs.kc_machine_steps.Swaps.{onward_of_swap, swap_access, swap_next, swaps_on}
 use Rattle.kc_machine_answers.specs.kc_machine_steps.declared.swap.Swap.{Swap}
 use Rattle.kc_machine_answers.specs.kc_machine_steps.declared.swap.SwapNext.{SwapNext}
 use Rattle.kc_machine_answers.specs.kc_machine_steps.declared.swap.SwapNext.TheVariants as swapping
 use Rattle.kc_machine_answers.proofs.kc_machine.Functions.{put_here}
 use Rattle.kc_machine_answers.specs.kc_machine.Hangs.{hang_access, hang_next, hangs_on, leave_access, leaves_on, next_read, onward_of, unblocks_or_tells}
 use Rattle.kc_machine_answers.specs.kc_machine.Machine.{Opening, State, World, found_at, touched}
-use Rattle.kc_machine_answers.specs.kc_machine.Seats.{access_of, after, answer_by, answer_of, is_idle, work_access}
+use Rattle.kc_machine_answers.specs.kc_machine.Seats.{access_of, seat_after, answer_by, seat_answered, is_idle, work_access}
 use Rattle.kc_machine_answers.specs.kc_machine.Waits.{Hang, Leave}
 use Rattle.kc_machine_answers.specs.kc_machine.Works.{Work}
 use Rattle.kc_machine_answers.specs.kc_machine.declared.hang.HangNext.{HangNext}
@@ -142,7 +142,7 @@ module _ (o : Opening) (m : State) (k : ℕ) (knows : Knows o m k) (n : ℕ) (so
       v : World
       v = touched w (commit_access s.caller s.calls c)
 
-      go : (x : Next) → NextRank n at s.descriptors e v c.halted (loaded c found_there).copy old (stage_left s.descriptors e w c.copy c.stage) x → SeatRank n at s.descriptors e v old (stage_left s.descriptors e w c.copy c.stage) (after (record s { work = work.Commit (gone_on (loaded c found_there) x) }) (onward_by x))
+      go : (x : Next) → NextRank n at s.descriptors e v c.halted (loaded c found_there).copy old (stage_left s.descriptors e w c.copy c.stage) x → SeatRank n at s.descriptors e v old (stage_left s.descriptors e w c.copy c.stage) (seat_after (record s { work = work.Commit (gone_on (loaded c found_there) x) }) (onward_by x))
       go (next.Goes x) z = inr z
       go (next.Takes x) z = inr z
       go (next.Tells t) z = inl refl
@@ -153,7 +153,7 @@ module _ (o : Opening) (m : State) (k : ℕ) (knows : Knows o m k) (n : ℕ) (so
       v : World
       v = touched w (look_access l.loc l.step)
 
-      go : (b : Bool) (x : LookNext) → SeatRank n at s.descriptors e v old (look_left w l.step) (after (record s { work = work.Look (looks_on l x) }) (told_by b x))
+      go : (b : Bool) (x : LookNext) → SeatRank n at s.descriptors e v old (look_left w l.step) (seat_after (record s { work = work.Look (looks_on l x) }) (told_by b x))
       go true x = inl refl
       go false (looking.Goes q) = inr (inl (tt, refl))
       go false (looking.Saw seen) = inl refl
@@ -164,7 +164,7 @@ module _ (o : Opening) (m : State) (k : ℕ) (knows : Knows o m k) (n : ℕ) (so
       v : World
       v = touched w (hang_access s.caller h)
 
-      go : (x : HangNext) → SeatRank n at s.descriptors e v old (hang_left w h.step) (after (record s { work = work.Hang (hangs_on h x) }) (onward_of x))
+      go : (x : HangNext) → SeatRank n at s.descriptors e v old (hang_left w h.step) (seat_after (record s { work = work.Hang (hangs_on h x) }) (onward_of x))
       go (hanging.Goes q) = inr (inl (tt, refl))
       go (hanging.Tells t) = inl refl
 
@@ -174,7 +174,7 @@ module _ (o : Opening) (m : State) (k : ℕ) (knows : Knows o m k) (n : ℕ) (so
       v : World
       v = touched w (leave_access s.caller l)
 
-      go : (x : Option Seen) → SeatRank n at s.descriptors e v old (free_left l.step) (after (record s { work = work.Leave (leaves_on l (next_read l.step) x) }) (unblocks_or_tells x))
+      go : (x : Option Seen) → SeatRank n at s.descriptors e v old (free_left l.step) (seat_after (record s { work = work.Leave (leaves_on l (next_read l.step) x) }) (unblocks_or_tells x))
       go None = inl refl
       go (Some x) = inr (inl (tt, refl))
 
@@ -184,7 +184,7 @@ module _ (o : Opening) (m : State) (k : ℕ) (knows : Knows o m k) (n : ℕ) (so
       v : World
       v = touched w (swap_access s.calls x)
 
-      go : (z : SwapNext) → SeatRank n at s.descriptors e v old (swap_left x.step) (after (record s { work = work.Swap (swaps_on x z) }) (onward_of_swap z))
+      go : (z : SwapNext) → SeatRank n at s.descriptors e v old (swap_left x.step) (seat_after (record s { work = work.Swap (swaps_on x z) }) (onward_of_swap z))
       go (swapping.Goes step) = inr (inl (tt, refl))
       go (swapping.Takes step) = inr (inl (tt, refl))
       go (swapping.Tells t) = inl refl
@@ -198,4 +198,4 @@ module _ (o : Opening) (m : State) (k : ℕ) (knows : Knows o m k) (n : ℕ) (so
   comes (work.Swap x) old a b c d r i = swap_ranks x old
 
   pub seat_ranks : (old : ℕ) → is_idle s.work ≡ false → WorkBuilds n at w s.work → WorkRank n at w s.work old → SeatRank n at s.descriptors e (one_step m k).world old (work_left s.descriptors e w s.work) ((one_step m k).seats k)
-  seat_ranks old i d r = subst (SeatRank n at s.descriptors e (touched w (access_of s)) old (work_left s.descriptors e w s.work)) (sym (put_here m.seats k (answer_of s (found_at w (access_of s))))) (comes s.work old knows.fits knows.ranges knows.formed d r i)
+  seat_ranks old i d r = subst (SeatRank n at s.descriptors e (touched w (access_of s)) old (work_left s.descriptors e w s.work)) (sym (put_here m.seats k (seat_answered s (found_at w (access_of s))))) (comes s.work old knows.fits knows.ranges knows.formed d r i)

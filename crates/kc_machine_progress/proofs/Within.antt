@@ -1,12 +1,12 @@
 -- From any state, step by step.
-use Rattle.kc_machine_answers.specs.kc_machine_steps.Swaps.{onward_of as onward_of_swap, swap_next, swaps_on}
+use Rattle.kc_machine_answers.specs.kc_machine_steps.Swaps.{onward_of_swap, swap_next, swaps_on}
 use Rattle.kc_machine_answers.specs.kc_machine_steps.declared.swap.Swap.{Swap}
 use Rattle.kc_machine_answers.specs.kc_machine_steps.declared.swap.SwapNext.{SwapNext}
 use Rattle.kc_machine_answers.specs.kc_machine_steps.declared.swap.SwapNext.TheVariants as swapping
 use Rattle.kc_machine_answers.specs.kc_machine.Hangs.{hang_step, hangs_on, leaves_on, next_read, onward_of, unblocks_or_tells}
 use Rattle.kc_machine_answers.specs.kc_machine.Machine.{Opening, World, run}
 use Rattle.kc_machine_answers.specs.kc_machine.Schedules.{IsSchedule}
-use Rattle.kc_machine_answers.specs.kc_machine.Seats.{after, answer_by, answer_of}
+use Rattle.kc_machine_answers.specs.kc_machine.Seats.{seat_after, answer_by, seat_answered}
 use Rattle.kc_machine_answers.specs.kc_machine.Waits.{Hang, Leave}
 use Rattle.kc_machine_answers.specs.kc_machine.Works.{Work}
 use Rattle.kc_machine_answers.specs.kc_machine.declared.hang.HangNext.{HangNext}
@@ -26,7 +26,7 @@ use Rattle.kc_machine_answers.specs.kc_machine_commits.declared.commit.OwnStep.{
 use Rattle.kc_machine_answers.specs.kc_machine_commits.declared.commit.Stage.{Stage}
 use Rattle.kc_machine_answers.specs.kc_machine_commits.declared.commit.Stage.TheVariants.{Own, Scan, Take}
 use Rattle.kc_machine_answers.specs.kc_machine_invariants.Holds.{Hold, NoHold, Proper, own_hold}
-use Rattle.kc_machine_answers.specs.kc_machine_invariants.Stands.{Stand, Waits, aids, commits, hangs, owns, resting, stand, works}
+use Rattle.kc_machine_answers.specs.kc_machine_invariants.Stands.{Stand, Waits, stand_aids, stand_commits, stand_hangs, owns, resting, stand, works}
 use Rattle.kc_machine_answers.proofs.kc_machine_traces.Always.{installed_prefix, line_known, references_fit}
 use Rattle.kc_machine_answers.proofs.kc_machine_traces.Targets.{Grounds, grounds}
 use Rattle.kc_machine_answers.specs.kc_machine_traces.Phases.{AidKnows}
@@ -86,7 +86,7 @@ owned_at o es j = work_hold ((run o es).seats j).work
 pub hold_same : (s : Seat) → own_hold (stand s).own ≡ work_hold s.work
 hold_same s = go s.work
   where
-    aiding_so : (t : Stand) (r : Reference) (a : Aided) (step : AidStep) → (aids t r a step).own ≡ t.own
+    aiding_so : (t : Stand) (r : Reference) (a : Aided) (step : AidStep) → (stand_aids t r a step).own ≡ t.own
     aiding_so t r a aid.Hold = refl
     aiding_so t r a aid.Status = refl
     aiding_so t r a (aid.First p) = refl
@@ -111,12 +111,12 @@ hold_same s = go s.work
     owning t i a h (own.Signal owed) = refl
     owning t i a h (own.Drop p) = refl
 
-    stages : (c : Commit) (x : Stage) → own_hold (commits (record (resting s) { halted = c.halted }) c.intent c.copy x).own ≡ stage_hold x
+    stages : (c : Commit) (x : Stage) → own_hold (stand_commits (record (resting s) { halted = c.halted }) c.intent c.copy x).own ≡ stage_hold x
     stages c (Scan d worn) = refl
     stages c (Take d g) = refl
     stages c (Own h step) = owning (record (resting s) { halted = c.halted }) c.intent c.copy h step
 
-    waits : (reads : List Seen) (step : HangStep) → own_hold (hangs (resting s) reads step).own ≡ NoHold
+    waits : (reads : List Seen) (step : HangStep) → own_hold (stand_hangs (resting s) reads step).own ≡ NoHold
     waits reads (hang.Set j) = refl
     waits reads (hang.Look j step) = refl
     waits reads (hang.Clear j n) = refl
@@ -186,7 +186,7 @@ built o es w k l = go s.work (grounds (run o es).callers (run o es).descriptors 
     owning t c h (own.Signal owed) g k = tt
     owning t c h (own.Drop p) g k = tt
 
-    stages : (c : Commit) (y : Stage) → Grounds x (commits (record (resting s) { halted = c.halted }) c.intent c.copy y) → AidKnows x (commits (record (resting s) { halted = c.halted }) c.intent c.copy y).aid → StageBuilds o.callers (owned_at o es) x c y
+    stages : (c : Commit) (y : Stage) → Grounds x (stand_commits (record (resting s) { halted = c.halted }) c.intent c.copy y) → AidKnows x (stand_commits (record (resting s) { halted = c.halted }) c.intent c.copy y).aid → StageBuilds o.callers (owned_at o es) x c y
     stages c (Scan d worn) g k = tt
     stages c (Take d t) g k = tt
     stages c (Own h step) g k = (grounded o es w h.descriptor, owning (record (resting s) { halted = c.halted }) c h step g k)
@@ -204,31 +204,31 @@ built o es w k l = go s.work (grounds (run o es).callers (run o es).descriptors 
 abbrev pub HoldStays : Hold → Work → Type 0
 HoldStays h x = (work_free x ≡ true) ⊎ (work_hold x ≡ h)
 
-pub hold_stays : (s : Seat) (f : Found) → HoldStays (work_hold s.work) (answer_of s f).work
+pub hold_stays : (s : Seat) (f : Found) → HoldStays (work_hold s.work) (seat_answered s f).work
 hold_stays s f = go s.work refl
   where
-    look_so : (l : Look) (b : Bool) (x : LookNext) → HoldStays NoHold (after (record s { work = work.Look (looks_on l x) }) (told_by b x)).work
+    look_so : (l : Look) (b : Bool) (x : LookNext) → HoldStays NoHold (seat_after (record s { work = work.Look (looks_on l x) }) (told_by b x)).work
     look_so l true x = inl refl
     look_so l false (looking.Goes q) = inl refl
     look_so l false (looking.Saw seen) = inl refl
 
-    hang_so : (h : Hang) (x : HangNext) → HoldStays NoHold (after (record s { work = work.Hang (hangs_on h x) }) (onward_of x)).work
+    hang_so : (h : Hang) (x : HangNext) → HoldStays NoHold (seat_after (record s { work = work.Hang (hangs_on h x) }) (onward_of x)).work
     hang_so h (hanging.Goes q) = inl refl
     hang_so h (hanging.Tells t) = inl refl
 
-    leave_so : (l : Leave) (j : ℕ) (x : Option Seen) → HoldStays NoHold (after (record s { work = work.Leave (leaves_on l j x) }) (unblocks_or_tells x)).work
+    leave_so : (l : Leave) (j : ℕ) (x : Option Seen) → HoldStays NoHold (seat_after (record s { work = work.Leave (leaves_on l j x) }) (unblocks_or_tells x)).work
     leave_so l j None = inl refl
     leave_so l j (Some x) = inl refl
 
-    swap_so : (x : Swap) (n : SwapNext) → HoldStays NoHold (after (record s { work = work.Swap (swaps_on x n) }) (onward_of_swap n)).work
+    swap_so : (x : Swap) (n : SwapNext) → HoldStays NoHold (seat_after (record s { work = work.Swap (swaps_on x n) }) (onward_of_swap n)).work
     swap_so x (swapping.Goes step) = inl refl
     swap_so x (swapping.Takes step) = inl refl
     swap_so x (swapping.Tells t) = inl refl
 
     Next_so : Commit → Hold → Next → Type 0
-    Next_so c h x = HoldStays h (after (record s { work = work.Commit (gone_on c x) }) (onward_by x)).work
+    Next_so c h x = HoldStays h (seat_after (record s { work = work.Commit (gone_on c x) }) (onward_by x)).work
 
-    owning : (c : Commit) (h : Handle) (step : OwnStep) → HoldStays (Proper h.descriptor h.generation) (after (record s { work = work.Commit (gone_on c (tells_or_goes s.calls c h step f)) }) (onward_by (tells_or_goes s.calls c h step f))).work
+    owning : (c : Commit) (h : Handle) (step : OwnStep) → HoldStays (Proper h.descriptor h.generation) (seat_after (record s { work = work.Commit (gone_on c (tells_or_goes s.calls c h step f)) }) (onward_by (tells_or_goes s.calls c h step f))).work
     owning c h own.FillOwner = inr refl
     owning c h (own.FillFirst k) = inr refl
     owning c h (own.FillSecond k) = inr refl
@@ -240,9 +240,9 @@ hold_stays s f = go s.work refl
     owning c h (own.Signal owed) = inr refl
     owning c h (own.Drop p) = inl refl
 
-    stages : (c : Commit) (x : Stage) → HoldStays (stage_hold x) (after (record s { work = work.Commit (gone_on c (stage_next s.descriptors s.calls c x f)) }) (onward_by (stage_next s.descriptors s.calls c x f))).work
-    stages c (Scan d worn) = scanned (λ x. HoldStays NoHold (after (record s { work = work.Commit (gone_on c x) }) (onward_by x)).work) (λ e v. inl refl) (λ e g. inl refl) (inl refl) s.descriptors d worn f
-    stages c (Take d g) = taken (λ x. HoldStays NoHold (after (record s { work = work.Commit (gone_on c x) }) (onward_by x)).work) (λ e v. inl refl) (λ e v. inl refl) (λ h. inl refl) s.descriptors d g f
+    stages : (c : Commit) (x : Stage) → HoldStays (stage_hold x) (seat_after (record s { work = work.Commit (gone_on c (stage_next s.descriptors s.calls c x f)) }) (onward_by (stage_next s.descriptors s.calls c x f))).work
+    stages c (Scan d worn) = scanned (λ x. HoldStays NoHold (seat_after (record s { work = work.Commit (gone_on c x) }) (onward_by x)).work) (λ e v. inl refl) (λ e g. inl refl) (inl refl) s.descriptors d worn f
+    stages c (Take d g) = taken (λ x. HoldStays NoHold (seat_after (record s { work = work.Commit (gone_on c x) }) (onward_by x)).work) (λ e v. inl refl) (λ e v. inl refl) (λ h. inl refl) s.descriptors d g f
     stages c (Own h step) = owning c h step
 
     go : (x : Work) → s.work ≡ x → HoldStays (work_hold x) (answer_by s f x).work

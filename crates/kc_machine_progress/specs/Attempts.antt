@@ -25,19 +25,19 @@ abbrev pub IsToldBy : State → ℕ → Task → ℕ → Told → Type 0
 IsToldBy m k t n x = ((makes m k t n).seats k).told ≡ Some x
 
 -- looks at these locations in turn are told so, in so many steps, and leave this state
-pub data Looks (k : ℕ) : State → List Loc → List Seen → ℕ → State → Type 0 where
-  none : (m : State) → Looks k m [] [] 0 m
-  look : (m u : State) (l : Loc) (ls : List Loc) (r : Seen) (rs : List Seen) (n p : ℕ) → IsToldBy m k (task.Look l) n (told.Seen r) → Looks k (makes m k (task.Look l) n) ls rs p u
-      → Looks k m (l ∷ ls) (r ∷ rs) (n + p) u
+pub data MachineLooks (k : ℕ) : State → List Loc → List Seen → ℕ → State → Type 0 where
+  none : (m : State) → MachineLooks k m [] [] 0 m
+  look : (m u : State) (l : Loc) (ls : List Loc) (r : Seen) (rs : List Seen) (n p : ℕ) → IsToldBy m k (task.Look l) n (told.Seen r) → MachineLooks k (makes m k (task.Look l) n) ls rs p u
+      → MachineLooks k m (l ∷ ls) (r ∷ rs) (n + p) u
 
 abbrev pub is_crossed : Told → Bool
 is_crossed (told.Crossed i) = true
 is_crossed _ = false
 
 -- a commit in mode Light, and one in mode All exactly where that was crossed
-pub data Commits (k : ℕ) (m : State) (f : Footprint) : ℕ → Type 0 where
-  once : (n : ℕ) (x : Told) → IsToldBy m k (task.Commit f mode.Light) n x → is_crossed x ≡ false → Commits k m f n
-  twice : (n p : ℕ) (x y : Told) → IsToldBy m k (task.Commit f mode.Light) n x → is_crossed x ≡ true → IsToldBy (makes m k (task.Commit f mode.Light) n) k (task.Commit f mode.All) p y → Commits k m f (n + p)
+pub data MachineCommits (k : ℕ) (m : State) (f : Footprint) : ℕ → Type 0 where
+  once : (n : ℕ) (x : Told) → IsToldBy m k (task.Commit f mode.Light) n x → is_crossed x ≡ false → MachineCommits k m f n
+  twice : (n p : ℕ) (x y : Told) → IsToldBy m k (task.Commit f mode.Light) n x → is_crossed x ≡ true → IsToldBy (makes m k (task.Commit f mode.Light) n) k (task.Commit f mode.All) p y → MachineCommits k m f (n + p)
 
 -- what an attempt commits of what its looks were told, in whatever order they were made: a well-made footprint that reads no more
 pub record IsPlanned (rs : List Seen) (f : Footprint) : Type 0 where
@@ -50,8 +50,8 @@ pub record IsAttempt (k : ℕ) (m : State) (ls : List Loc) (plan : List Seen →
   pub after : State
   pub looking : ℕ
   pub committing : ℕ
-  pub looks : Looks k m ls seen looking after
-  pub commits : Commits k after (plan seen) committing
+  pub looks : MachineLooks k m ls seen looking after
+  pub commits : MachineCommits k after (plan seen) committing
   pub counts : n ≡ looking + committing
 
 -- descriptor d can be taken

@@ -13,17 +13,17 @@ use Rattle.kc_machine_answers.specs.kc_machine.Seats.{is_idle}
 use Rattle.kc_machine_answers.specs.kc_machine_traces.Claims.{bound_alone}
 use Rattle.kc_machine_answers.specs.kc_machine_traces.Histories.{footprint_of}
 use Rattle.kc_machine_answers.specs.kc_machine_traces.Traces.{swap_line}
-use Rattle.kc_machine_progress.specs.Attempts.{makes, IsToldBy, is_crossed, Commits, CanBeTaken}
+use Rattle.kc_machine_progress.specs.Attempts.{makes, IsToldBy, is_crossed, MachineCommits, CanBeTaken}
 
 -- what a swap reads and puts
-abbrev pub put_of : Seen → ℕ → Footprint
-put_of r after = footprint_of (swap_line r after ∷ [])
+abbrev pub swap_footprint : Seen → ℕ → Footprint
+swap_footprint r after = footprint_of (swap_line r after ∷ [])
 
 -- what was seen is swapped, and exactly where that was crossed the commits of the same footprint follow; what stands at its last version is not swapped
-pub data Swaps (k : ℕ) (m : State) (r : Seen) (after : ℕ) : ℕ → Type 0 where
-  worn : r.version ≡ LAST_VERSION → Swaps k m r after 0
-  by_swap : (n : ℕ) (x : Told) → r.version < LAST_VERSION → IsToldBy m k (task.Swap r after) n x → is_crossed x ≡ false → Swaps k m r after n
-  behind_swap : (n p : ℕ) (x : Told) → r.version < LAST_VERSION → IsToldBy m k (task.Swap r after) n x → is_crossed x ≡ true → Commits k (makes m k (task.Swap r after) n) (put_of r after) p → Swaps k m r after (n + p)
+pub data MachineSwaps (k : ℕ) (m : State) (r : Seen) (after : ℕ) : ℕ → Type 0 where
+  worn : r.version ≡ LAST_VERSION → MachineSwaps k m r after 0
+  by_swap : (n : ℕ) (x : Told) → r.version < LAST_VERSION → IsToldBy m k (task.Swap r after) n x → is_crossed x ≡ false → MachineSwaps k m r after n
+  behind_swap : (n p : ℕ) (x : Told) → r.version < LAST_VERSION → IsToldBy m k (task.Swap r after) n x → is_crossed x ≡ true → MachineCommits k (makes m k (task.Swap r after) n) (swap_footprint r after) p → MachineSwaps k m r after (n + p)
 
 -- looked at, then swapped
 pub record IsSwapAttempt (k : ℕ) (m : State) (l : Loc) (after : Seen → ℕ) (n : ℕ) : Type 0 where
@@ -31,7 +31,7 @@ pub record IsSwapAttempt (k : ℕ) (m : State) (l : Loc) (after : Seen → ℕ) 
   pub looking : ℕ
   pub swapping : ℕ
   pub looked : IsToldBy m k (task.Look l) looking (told.Seen seen)
-  pub swaps : Swaps k (makes m k (task.Look l) looking) seen (after seen) swapping
+  pub swaps : MachineSwaps k (makes m k (task.Look l) looking) seen (after seen) swapping
   pub counts : n ≡ looking + swapping
 
 -- an idle seat's attempt at one location, made alone where two descriptors can be taken, ends within the bound of one task, whatever it puts there

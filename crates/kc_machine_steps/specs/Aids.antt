@@ -19,7 +19,7 @@ use Rattle.kc_machine_steps.specs.declared.pass.PassNext.TheVariants as pass
 use Rattle.kc_machine_steps.specs.declared.aid.AidStep.{AidStep}
 use Rattle.kc_machine_steps.specs.declared.aid.Aided.{Aided}
 use Rattle.kc_machine_steps.specs.declared.aid.AidStep.TheVariants as aid
-use Rattle.kc_machine_steps.specs.Lines.{joined}
+use Rattle.kc_machine_steps.specs.Lines.{line_of_halves}
 use Rattle.kc_machine_steps.specs.Passes.{pass_access, pass_next, release_access, from_install, from_release}
 use Rattle.kc_machine_steps.specs.declared.aid.AidNext.{AidNext}
 use Rattle.kc_machine_steps.specs.declared.aid.AidNext.TheVariants.{Goes, Back}
@@ -48,7 +48,7 @@ copy_owner a (found.Owner o) = record a { owner = o; lines = record { items = []
 copy_owner a _ = a
 
 abbrev pub copy_line : Aided → First → Found → Aided
-copy_line a f (found.Second s) = if length a.lines.items == MOST then a else record a { lines = record { items = a.lines.items ++ joined f s ∷ [] } }
+copy_line a f (found.Second s) = if length a.lines.items == MOST then a else record a { lines = record { items = a.lines.items ++ line_of_halves f s ∷ [] } }
 copy_line a f _ = a
 
 abbrev pub aid_copy : Aided → AidStep → Found → Aided
@@ -57,9 +57,9 @@ aid_copy a (aid.LoadSecond x) f = copy_line a x f
 aid_copy a _ f = a
 
 -- what each step makes of what it found
-abbrev pub hold_next : Reference → Found → AidStep
-hold_next r (found.Control c) = if c.generation == r.handle.generation then aid.Status else aid.Drop true None
-hold_next r _ = aid.Hold
+abbrev pub aid_hold_next : Reference → Found → AidStep
+aid_hold_next r (found.Control c) = if c.generation == r.handle.generation then aid.Status else aid.Drop true None
+aid_hold_next r _ = aid.Hold
 
 abbrev pub owner_or_first : Phase → AidStep
 owner_or_first Active = aid.Owner
@@ -68,23 +68,23 @@ owner_or_first (Failed k) = aid.First (Failed k)
 owner_or_first (Crossed k) = aid.First (Crossed k)
 owner_or_first Halted = aid.First Halted
 
-abbrev pub status_next : Found → AidStep
-status_next (found.Status s) = owner_or_first s.phase
-status_next _ = aid.Status
+abbrev pub aid_status_next : Found → AidStep
+aid_status_next (found.Status s) = owner_or_first s.phase
+aid_status_next _ = aid.Status
 
-abbrev pub first_next : Phase → Found → AidStep
-first_next p (found.First f) = aid.Second p f
-first_next p _ = aid.First p
+abbrev pub aid_first_next : Phase → Found → AidStep
+aid_first_next p (found.First f) = aid.Second p f
+aid_first_next p _ = aid.First p
 
-abbrev pub second_next : Phase → First → Found → AidStep
-second_next p f (found.Second s) = aid.Release p (joined f s)
-second_next p f _ = aid.Second p f
+abbrev pub aid_second_next : Phase → First → Found → AidStep
+aid_second_next p f (found.Second s) = aid.Release p (line_of_halves f s)
+aid_second_next p f _ = aid.Second p f
 
-abbrev pub load_next : Aided → AidStep
-load_next a = if nat_lt (length a.lines.items) a.owner.lines then aid.LoadFirst else aid.Pass (from_install a.owner.mode a.lines.items 0)
+abbrev pub aid_load_next : Aided → AidStep
+aid_load_next a = if nat_lt (length a.lines.items) a.owner.lines then aid.LoadFirst else aid.Pass (from_install a.owner.mode a.lines.items 0)
 
 abbrev pub owner_next : Aided → Found → AidStep
-owner_next a (found.Owner o) = load_next a
+owner_next a (found.Owner o) = aid_load_next a
 owner_next a _ = aid.Owner
 
 abbrev pub load_first_next : Found → AidStep
@@ -92,7 +92,7 @@ load_first_next (found.First f) = aid.LoadSecond f
 load_first_next _ = aid.LoadFirst
 
 abbrev pub load_second_next : Aided → First → Found → AidStep
-load_second_next a f (found.Second s) = load_next a
+load_second_next a f (found.Second s) = aid_load_next a
 load_second_next a f _ = aid.LoadSecond f
 
 abbrev pub after_pass : PassNext → AidStep
@@ -114,10 +114,10 @@ leave_next m xs onward _ = aid.Leave onward
 
 -- the copy has what the step loads
 abbrev pub aid_next : Reference → Aided → AidStep → Found → AidNext
-aid_next r a aid.Hold f = Goes (hold_next r f)
-aid_next r a aid.Status f = Goes (status_next f)
-aid_next r a (aid.First p) f = Goes (first_next p f)
-aid_next r a (aid.Second p x) f = Goes (second_next p x f)
+aid_next r a aid.Hold f = Goes (aid_hold_next r f)
+aid_next r a aid.Status f = Goes (aid_status_next f)
+aid_next r a (aid.First p) f = Goes (aid_first_next p f)
+aid_next r a (aid.Second p x) f = Goes (aid_second_next p x f)
 aid_next r a (aid.Release p x) f = Goes (aid.Drop false None)
 aid_next r a aid.Owner f = Goes (owner_next a f)
 aid_next r a aid.LoadFirst f = Goes (load_first_next f)

@@ -43,8 +43,8 @@ first_of x = record { put = has_put x.put; version = x.seen.version; before = x.
 abbrev pub second_of : Line → Second
 second_of x = record { loc = x.seen.loc.0; after = value_after x.put x.seen.value }
 
-abbrev pub joined : First → Second → Line
-joined f s = record { seen = record { loc = record { 0 = s.loc }; version = f.version; value = f.before }; put = if f.put then Some s.after else None }
+abbrev pub line_of_halves : First → Second → Line
+line_of_halves f s = record { seen = record { loc = record { 0 = s.loc }; version = f.version; value = f.before }; put = if f.put then Some s.after else None }
 
 -- what a reference to a line stands for
 abbrev pub succeeds : Phase → Bool
@@ -64,8 +64,8 @@ abbrev pub resolved : First → ℕ → Phase → ℕ × ℕ
 resolved f after p = (resolved_version f p, resolved_value f after p)
 
 -- the word that refers to a line
-abbrev pub word_of : Handle → ℕ → Word
-word_of h k = Ref h.generation h.descriptor k
+abbrev pub reference_word : Handle → ℕ → Word
+reference_word h k = Ref h.generation h.descriptor k
 
 -- kinds of lines
 abbrev pub is_installed : Mode → Line → Bool

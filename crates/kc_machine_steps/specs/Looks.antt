@@ -34,15 +34,15 @@ look_access l (look.First r p) = access.First r.handle.descriptor r.line touch.L
 look_access l (look.Second r p f) = access.Second r.handle.descriptor r.line touch.Load
 look_access l (look.Drop r stray then_seen) = access.Control r.handle.descriptor grip.Subtract
 
-abbrev pub seen_at : Loc → ℕ → ℕ → Seen
-seen_at l v x = record { loc = l; version = v; value = x }
+abbrev pub seen_with : Loc → ℕ → ℕ → Seen
+seen_with l v x = record { loc = l; version = v; value = x }
 
 abbrev pub seen_as : Loc → First → ℕ → Phase → Seen
-seen_as l f after p = seen_at l (resolved_version f p) (resolved_value f after p)
+seen_as l f after p = seen_with l (resolved_version f p) (resolved_value f after p)
 
 -- what each step makes of what it found
 abbrev pub load_next : Loc → Found → LookNext
-load_next l (found.Word (Plain v x)) = Saw (seen_at l v x)
+load_next l (found.Word (Plain v x)) = Saw (seen_with l v x)
 load_next l (found.Word (Ref g d k)) = Goes (look.Hold (reference_of g d k))
 load_next l _ = Goes look.Load
 

@@ -19,7 +19,7 @@ use Rattle.kc_machine_steps.specs.declared.pass.AfterCheck.{AfterCheck}
 use Rattle.kc_machine_steps.specs.declared.pass.PassStep.{PassStep}
 use Rattle.kc_machine_steps.specs.declared.pass.PassStep.TheVariants.{Install, Check, CheckHold, CheckStatus, CheckFirst, CheckDrop, Decide, Release}
 use Rattle.kc_machine_steps.specs.declared.pass.AfterCheck.TheVariants as checked
-use Rattle.kc_machine_steps.specs.Lines.{after_line, first_of, second_of, resolved_version, resolved_value, next_line, word_of}
+use Rattle.kc_machine_steps.specs.Lines.{after_line, first_of, second_of, resolved_version, resolved_value, next_line, reference_word}
 use Rattle.kc_machine_steps.specs.Looks.{reference_of}
 use Rattle.kc_machine_steps.specs.declared.pass.PassNext.{PassNext}
 use Rattle.kc_machine_steps.specs.declared.pass.PassNext.TheVariants.{Goes, Met, Finished, Left}
@@ -27,14 +27,14 @@ use Rattle.kc_machine_steps.specs.declared.pass.PassNext.TheVariants.{Goes, Met,
 -- the access of each step
 abbrev pub install_access : Handle → ℕ → Option Line → Access
 install_access h k None = access.Nothing
-install_access h k (Some x) = access.Location x.seen.loc (touch.CompareExchange (Plain x.seen.version x.seen.value) (word_of h k))
+install_access h k (Some x) = access.Location x.seen.loc (touch.CompareExchange (Plain x.seen.version x.seen.value) (reference_word h k))
 
 abbrev pub check_access : Option Line → Access
 check_access None = access.Nothing
 check_access (Some x) = access.Location x.seen.loc touch.Load
 
 abbrev pub release_access : Handle → ℕ → Phase → Line → Access
-release_access h k p x = access.Location x.seen.loc (touch.CompareExchange (word_of h k) (Plain (resolved_version (first_of x) p) (resolved_value (first_of x) (second_of x).after p)))
+release_access h k p x = access.Location x.seen.loc (touch.CompareExchange (reference_word h k) (Plain (resolved_version (first_of x) p) (resolved_value (first_of x) (second_of x).after p)))
 
 abbrev pub release_at : Handle → ℕ → Phase → Option Line → Access
 release_at h k p None = access.Nothing

@@ -52,17 +52,17 @@ exchange_next r calls (found.Word (Plain v x)) =
 exchange_next r calls (found.Word (Ref g d k)) = Tells (told.Crossed 0)
 exchange_next r calls _ = Goes swap.Exchange
 
-abbrev pub owed_next : ℕ → ℕ → SwapNext
-owed_next calls owed = if owed == 0 then Tells (told.Succeeded calls) else Goes (swap.Signal owed)
+abbrev pub swap_owed_next : ℕ → ℕ → SwapNext
+swap_owed_next calls owed = if owed == 0 then Tells (told.Succeeded calls) else Goes (swap.Signal owed)
 
-abbrev pub wake_next : ℕ → Found → SwapNext
-wake_next calls (found.Callers callers) = owed_next calls callers
-wake_next calls _ = Goes swap.Wake
+abbrev pub swap_wake_next : ℕ → Found → SwapNext
+swap_wake_next calls (found.Callers callers) = swap_owed_next calls callers
+swap_wake_next calls _ = Goes swap.Wake
 
 abbrev pub swap_next_at : Seen → ℕ → SwapStep → Found → SwapNext
 swap_next_at r calls swap.Exchange f = exchange_next r calls f
-swap_next_at r calls swap.Wake f = wake_next calls f
-swap_next_at r calls (swap.Signal owed) f = owed_next calls (bit_and owed (owed - 1))
+swap_next_at r calls swap.Wake f = swap_wake_next calls f
+swap_next_at r calls (swap.Signal owed) f = swap_owed_next calls (bit_and owed (owed - 1))
 
 abbrev pub swap_next : ℕ → Swap → Found → SwapNext
 swap_next calls x f = swap_next_at x.seen calls x.step f
@@ -75,13 +75,13 @@ swaps_on x (Tells t) = x
 abbrev pub swap_after : ℕ → Swap → Found → Swap
 swap_after calls x f = swaps_on x (swap_next calls x f)
 
-abbrev pub onward_of : SwapNext → Onward
-onward_of (Goes step) = onward.Goes
-onward_of (Takes step) = onward.Takes
-onward_of (Tells t) = onward.Tells t
+abbrev pub onward_of_swap : SwapNext → Onward
+onward_of_swap (Goes step) = onward.Goes
+onward_of_swap (Takes step) = onward.Takes
+onward_of_swap (Tells t) = onward.Tells t
 
 abbrev pub swap_onward : ℕ → Swap → Found → Onward
-swap_onward calls x f = onward_of (swap_next calls x f)
+swap_onward calls x f = onward_of_swap (swap_next calls x f)
 
 -- a halt: what was changed is told
 abbrev pub ends_at_once : SwapStep → Bool

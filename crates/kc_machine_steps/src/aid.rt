@@ -1,7 +1,7 @@
 //! The aid of a descriptor whose reference stood where an own line is to be installed.
 
 ghost use Rattle.std.specs.Prelude.{◌≡◌};
-ghost use Rattle.kc_machine_steps.specs.Aids.{aid_access, aid_next, aid_copy, status_next, hold_next, after_pass, leave_next, load_next};
+ghost use Rattle.kc_machine_steps.specs.Aids.{aid_access, aid_next, aid_copy, aid_status_next, aid_hold_next, after_pass, leave_next, aid_load_next};
 ghost use Rattle.kc_machine_steps.specs.Aids.{no_copy};
 
 use crate::line::joined;
@@ -84,7 +84,7 @@ pub fn aid_access(met: Reference, copy: &Aided, step: &AidStep) -> Access
 }
 
 fn hold_next(met: Reference, found: &Found) -> AidStep
-    ensures { result ≡ hold_next met found.now }
+    ensures { result ≡ aid_hold_next met found.now }
 {
     match found {
         Found::Control(control) => if control.generation == met.handle.generation {
@@ -100,7 +100,7 @@ fn hold_next(met: Reference, found: &Found) -> AidStep
 }
 
 fn status_next(found: &Found) -> AidStep
-    ensures { result ≡ status_next found.now }
+    ensures { result ≡ aid_status_next found.now }
 {
     match found {
         Found::Status(status) => match status.phase {
@@ -171,7 +171,7 @@ impl Aided {
 
     // The load of the next line, or the pass.
     fn load_next(&self) -> AidStep
-        ensures { result ≡ load_next self.now }
+        ensures { result ≡ aid_load_next self.now }
     {
         if self.lines.len() < self.owner.lines as usize {
             AidStep::LoadFirst

@@ -1,7 +1,7 @@
 //! The lines of a commit.
 
 ghost use Rattle.std.specs.Prelude.{◌≡◌, ◌≤◌, slice_get, length, true};
-ghost use Rattle.kc_machine_steps.specs.Lines.{after_line, first_of, second_of, joined, resolved, resolved_version, next_version, picks, next_line, put_of, rises_from, follows, lines_of, one_more, word_of};
+ghost use Rattle.kc_machine_steps.specs.Lines.{after_line, first_of, second_of, line_of_halves, resolved, resolved_version, next_version, picks, next_line, put_of, rises_from, follows, lines_of, one_more, reference_word};
 
 use arrayvec::ArrayVec;
 use kc_machine_words::{First, Handle, Mode, Phase, Second};
@@ -74,7 +74,7 @@ pub fn second_of(line: &Line) -> Second
 
 /// The line that these words are of.
 pub fn joined(first: First, second: Second) -> Line
-    ensures { result ≡ joined first second }
+    ensures { result ≡ line_of_halves first second }
 {
     Line {
         seen: Seen {
@@ -116,7 +116,7 @@ pub fn resolved(first: First, after: u32, phase: Phase) -> (u32, u32)
 
 /// The word that refers to a line.
 pub fn word_of(handle: Handle, line: u32) -> Word
-    ensures { result ≡ word_of handle line }
+    ensures { result ≡ reference_word handle line }
 {
     Word::Ref {
         generation: handle.generation,

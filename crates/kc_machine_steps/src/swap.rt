@@ -1,7 +1,7 @@
 //! A swap: one location's word is changed by one step, where it is the one that was seen.
 
 ghost use Rattle.std.specs.Prelude.{◌≡◌};
-ghost use Rattle.kc_machine_steps.specs.Swaps.{may_swap, exchange, swap_access, exchange_next, owed_next, swap_next, swap_after, swap_onward, ends_at_once};
+ghost use Rattle.kc_machine_steps.specs.Swaps.{may_swap, exchange, swap_access, exchange_next, swap_owed_next, swap_next, swap_after, swap_onward, ends_at_once};
 
 use crate::line::next_version;
 use crate::task::{Onward, Told};
@@ -91,7 +91,7 @@ fn exchange_next(seen: Seen, calls: u64, found: &Found) -> SwapNext
 }
 
 fn owed_next(calls: u64, owed: u64) -> SwapNext
-    ensures { result ≡ owed_next calls owed }
+    ensures { result ≡ swap_owed_next calls owed }
 {
     if owed == 0 {
         SwapNext::Tells(Told::Succeeded { number: calls })

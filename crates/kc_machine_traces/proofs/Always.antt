@@ -1,6 +1,6 @@
 -- The laws of deciding and aiding, over every opening and every schedule.
 use Rattle.std.proofs.Common.{◌≡◌, ℕ, ◌⊎◌, ◌∙◌, ⊎_elim, inl, inr, refl, sym, subst, List}
-use Rattle.kc_machine_traces.specs.kc_machine.Machine.{Opening, run, opened}
+use Rattle.kc_machine_traces.specs.kc_machine.Machine.{Opening, run, opened_state}
 use Rattle.kc_machine_traces.specs.Claims.{OwnerHolds, SomeoneReleases, ReferencesAreHeld}
 use Rattle.kc_machine_traces.proofs.kc_machine_invariants.Runs.{holds_after}
 use Rattle.kc_machine_traces.specs.kc_machine_invariants.Stands.{stand}
@@ -19,7 +19,7 @@ use Rattle.kc_machine_traces.specs.kc_machine_words.declared.words.Phase.{Phase}
 use Rattle.kc_machine_traces.specs.kc_machine_words.declared.words.Phase.TheVariants.{Active, Succeeded, Failed, Crossed, Halted}
 use Rattle.kc_model.specs.declared.word.Word.TheVariants.{Ref}
 
-pub opened_facts : (o : Opening) → Facts o.callers (opened o).descriptors (opened o).world (λ k. stand ((opened o).seats k))
+pub opened_facts : (o : Opening) → Facts o.callers (opened_state o).descriptors (opened_state o).world (λ k. stand ((opened_state o).seats k))
 opened_facts o = record {
   copies = opened_copies o;
   fit = λ l g d i q. absurd (cc);
@@ -30,7 +30,7 @@ opened_facts o = record {
   waiting = λ j b. tt;
   before = λ l g d k i q. absurd (cc);
   halted = λ j d g b q. absurd (cc);
-  exist = λ j b. record { pass = none_met (Exists (opened o).world); aided = none_met (Exists (opened o).world); onward = none_met (Exists (opened o).world); look = none_met (Exists (opened o).world) };
+  exist = λ j b. record { pass = none_met (Exists (opened_state o).world); aided = none_met (Exists (opened_state o).world); onward = none_met (Exists (opened_state o).world); look = none_met (Exists (opened_state o).world) };
 }
 
 -- the facts, after every schedule

@@ -17,8 +17,8 @@ use Rattle.kc_machine_invariants.specs.kc_machine_steps.declared.task.Event.{Eve
 use Rattle.kc_machine_invariants.specs.kc_machine_steps.declared.task.Event.TheVariants.{Begin, Step, Halt}
 use Rattle.kc_machine_invariants.specs.kc_machine.Works as work
 use Rattle.kc_machine_invariants.proofs.kc_machine.Functions.{put_here, put_else}
-use Rattle.kc_machine_invariants.specs.kc_machine.Machine.{State, Opening, put, found_at, touched, possible, happened, event_of, seat_of, run}
-use Rattle.kc_machine_invariants.specs.kc_machine.Seats.{access_of, answer_of, answer_by, after, is_idle, begun, begun_idle, working, hanging, halted, halted_by, ended}
+use Rattle.kc_machine_invariants.specs.kc_machine.Machine.{State, Opening, put_at_index, found_at, touched, possible, happened, event_of, seat_of, run}
+use Rattle.kc_machine_invariants.specs.kc_machine.Seats.{access_of, seat_answered, answer_by, seat_after, is_idle, begun, begun_idle, working, hanging, halted, halted_by, seat_halted}
 use Rattle.kc_machine_invariants.specs.kc_machine.declared.seat.Seat.{Seat}
 use Rattle.kc_machine_traces.proofs.Follows.{trace_runs, trace_counts}
 use Rattle.kc_machine_traces.specs.Traces.{Moment, Shadow, Trace, begins, with_task, shadow_after, now, traced, trace_from, trace, opened_trace}
@@ -30,18 +30,18 @@ use Rattle.kc_machine_traces.specs.Moments.{AnswersWhenDone, BeginsNothing}
 
 abbrev pub moved : State → Event → Seat
 moved m (Begin k t) = begun (m.seats k) t
-moved m (Step k) = answer_of (m.seats k) (found_at m.world (access_of (m.seats k)))
+moved m (Step k) = seat_answered (m.seats k) (found_at m.world (access_of (m.seats k)))
 moved m (Halt k) = halted (m.seats k)
 
 -- it moves, or stays as it was
 pub seat_cases : (P : Seat → Type 0) (m : State) (e : Event) → P (m.seats (seat_of e)) → P (moved m e) → P ((event_of m e).seats (seat_of e))
 seat_cases P m e same new = go (nat_lt (seat_of e) m.callers)
   where
-    at : (k : ℕ) (s : Seat) → P s → P (put m.seats k s k)
+    at : (k : ℕ) (s : Seat) → P s → P (put_at_index m.seats k s k)
     at k s p = subst P (sym (put_here m.seats k s)) p
 
-    step : (k : ℕ) → P (m.seats k) → P (answer_of (m.seats k) (found_at m.world (access_of (m.seats k)))) → (b : Bool)
-        → P ((if b then record m { world = touched m.world (access_of (m.seats k)); seats = put m.seats k (answer_of (m.seats k) (found_at m.world (access_of (m.seats k)))) } else m).seats k)
+    step : (k : ℕ) → P (m.seats k) → P (seat_answered (m.seats k) (found_at m.world (access_of (m.seats k)))) → (b : Bool)
+        → P ((if b then record m { world = touched m.world (access_of (m.seats k)); seats = put_at_index m.seats k (seat_answered (m.seats k) (found_at m.world (access_of (m.seats k)))) } else m).seats k)
     step k same new true = at k _ new
     step k same new false = same
 
@@ -58,13 +58,13 @@ seat_cases P m e same new = go (nat_lt (seat_of e) m.callers)
 
 module _ (s : Seat) (a : Option Task) (h : AnswersWhenDone s a) where
   -- a task that runs goes on, or is told
-  runs_on : (x : Work) → is_idle x ≡ false → is_idle s.work ≡ false → (n : Onward) → AnswersWhenDone (after (record s { work = x }) n) a
+  runs_on : (x : Work) → is_idle x ≡ false → is_idle s.work ≡ false → (n : Onward) → AnswersWhenDone (seat_after (record s { work = x }) n) a
   runs_on x i b onward.Goes = record { busy = λ e. h.busy b; idle = λ e. absurd (cc) }
   runs_on x i b onward.Takes = record { busy = λ e. h.busy b; idle = λ e. absurd (cc) }
   runs_on x i b onward.Unblocks = record { busy = λ e. h.busy b; idle = λ e. absurd (cc) }
   runs_on x i b (onward.Tells t) = record { busy = λ e. absurd (cc); idle = λ e. sym (h.busy b).1 }
 
-  answers : (f : Found) → AnswersWhenDone (answer_of s f) a
+  answers : (f : Found) → AnswersWhenDone (seat_answered s f) a
   answers f = go s.work refl
     where
       go : (x : Work) → s.work ≡ x → AnswersWhenDone (answer_by s f x) a
@@ -75,17 +75,17 @@ module _ (s : Seat) (a : Option Task) (h : AnswersWhenDone s a) where
       go (work.Leave l) e = runs_on _ refl (ap is_idle e) (leave_onward l)
       go (work.Swap x) e = runs_on _ refl (ap is_idle e) (swap_onward s.calls x f)
 
-  stops : is_idle s.work ≡ false → AnswersWhenDone (ended s) a
+  stops : is_idle s.work ≡ false → AnswersWhenDone (seat_halted s) a
   stops b = record { busy = λ e. absurd (cc); idle = λ e. sym (h.busy b).1 }
 
   halts : AnswersWhenDone (halted s) a
   halts = go s.work refl
     where
-      ends_or : (x : Work) → is_idle x ≡ false → is_idle s.work ≡ false → (b : Bool) → AnswersWhenDone (if b then ended s else record s { work = x }) a
+      ends_or : (x : Work) → is_idle x ≡ false → is_idle s.work ≡ false → (b : Bool) → AnswersWhenDone (if b then seat_halted s else record s { work = x }) a
       ends_or x i b true = stops b
       ends_or x i b false = record { busy = λ e. h.busy b; idle = λ e. absurd (cc) }
 
-      ends_or_stays : is_idle s.work ≡ false → (b : Bool) → AnswersWhenDone (if b then ended s else s) a
+      ends_or_stays : is_idle s.work ≡ false → (b : Bool) → AnswersWhenDone (if b then seat_halted s else s) a
       ends_or_stays i true = stops i
       ends_or_stays i false = h
 

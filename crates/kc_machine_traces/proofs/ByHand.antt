@@ -1,11 +1,11 @@
 -- What the worked schedules need besides computing.
 use Rattle.std.proofs.Common.{arith, ◌≡◌, ◌++◌, inl, inr, true, Some, ℕ, zero, suc, refl, sym, ap, subst, List, [], ◌∷◌, Contains}
 use Rattle.std.specs.Prelude.{take}
-use Rattle.kc_machine_invariants.specs.kc_machine.Machine.{put, run}
+use Rattle.kc_machine_invariants.specs.kc_machine.Machine.{put_at_index, run}
 use Rattle.kc_machine_traces.specs.Claims.{steps, HasPut, OwnsSucceeded, still_wakes, WakeIsToCome, IsCovered, has_bit, OwnerHolds, PassOwes, SomeoneReleases}
-use Rattle.kc_machine_traces.specs.Histories.{History, ending, cell_of, IsKnown, IsLegalHistory}
+use Rattle.kc_machine_traces.specs.Histories.{History, ending_store, seen_as_cell, IsKnown, IsLegalHistory}
 use Rattle.kc_machine_traces.specs.Traces.{Trace, trace, traced, trace_from, first_store, IsHonest, IsHonestFrom}
-use Rattle.kc_machine_traces.specs.Worked.{seen, change, placed, two, installed, decided, helped, waited, guessed, swapped}
+use Rattle.kc_machine_traces.specs.Worked.{seen, change, worked_placed, two, installed, decided, helped, waited, guessed, worked_swapped}
 use Rattle.kc_machine_invariants.specs.Holds.{Proper, own_hold}
 use Rattle.kc_machine_invariants.specs.Stands.{Own, Runs, Over, At, Swaps, stand}
 use Rattle.kc_machine_invariants.specs.kc_machine_steps.Lines.{next_among}
@@ -52,24 +52,24 @@ helped_is_honest = (λ r l. opens_known _ r l, honest_steps _ _ 0 7 _ (λ r l. o
 pub guessed_is_not : IsHonest two guessed → ⊥
 guessed_is_not h =
     let k = h.0 (seen 0 1 7) (Contains-first (seen 0 1 7) []) in
-    let e = subst (λ x. ending (first_store two) x 0 ≡ cell_of (seen 0 1 7)) (take_none k.0) k.1 in
+    let e = subst (λ x. ending_store (first_store two) x 0 ≡ seen_as_cell (seen 0 1 7)) (take_none k.0) k.1 in
     absurd (omega (arith, ap (λ x. x.version) e))
 
 abbrev only_entry : History
-only_entry = placed 21 0 (change 0 0 5 7) ∷ []
+only_entry = worked_placed 21 0 (change 0 0 5 7) ∷ []
 
 pub helped_history : (trace two helped).history ≡ only_entry
-unfolding put next_among steps
+unfolding put_at_index next_among steps
 helped_history = refl
 
 finds : Finds (change 0 0 5 7) (first_store two)
-finds r l = subst (λ x. first_store two x.loc.0 ≡ cell_of x) (sym (only l)) refl
+finds r l = subst (λ x. first_store two x.loc.0 ≡ seen_as_cell x) (sym (only l)) refl
 
 pub helped_is_legal : IsLegalHistory (first_store two) (trace two helped).history
 helped_is_legal = subst (IsLegalHistory (first_store two)) (sym helped_history) (finds, refl)
 
 pub helped_has_cause : HasPut (trace two helped).history (seen 0 0 5)
-helped_has_cause = subst (λ h. HasPut h (seen 0 0 5)) (sym helped_history) (placed 21 0 (change 0 0 5 7), record { loc = record { 0 = 0 }; version = 0; after = 7 }, Contains-first _ [], Contains-first _ [], refl, refl)
+helped_has_cause = subst (λ h. HasPut h (seen 0 0 5)) (sym helped_history) (worked_placed 21 0 (change 0 0 5 7), record { loc = record { 0 = 0 }; version = 0; after = 7 }, Contains-first _ [], Contains-first _ [], refl, refl)
 
 -- the line by which seat 0 changes what seat 1 waits for
 abbrev changing : Line
@@ -79,15 +79,15 @@ abbrev changer : Own
 changer = Runs (record { descriptor = 0; generation = 1 }) (record { mode = All; lines = record { items = changing ∷ [] } })
 
 waited_for : (stand ((run two waited).seats 0)).own ≡ changer
-unfolding put next_among steps
+unfolding put_at_index next_among steps
 waited_for = refl
 
 waited_status : (run two waited).world.status 0 ≡ status 1 Succeeded
-unfolding put next_among steps
+unfolding put_at_index next_among steps
 waited_status = refl
 
 waited_callers : (run two waited).callers ≡ 2
-unfolding put next_among steps
+unfolding put_at_index next_among steps
 waited_callers = refl
 
 owns_succeeded : OwnsSucceeded (run two waited).world (stand ((run two waited).seats 0)).own
@@ -100,7 +100,7 @@ pub wake_to_come : WakeIsToCome (run two waited) (seen 0 0 5)
 wake_to_come = inl (0, changing, omega (arith, waited_callers), owns_succeeded, wakes_here, refl, refl, refl)
 
 waited_bit : has_bit ((run two waited).world.awaiters 0) 1 ≡ true
-unfolding put next_among steps
+unfolding put_at_index next_among steps
 waited_bit = refl
 
 pub waited_covered : IsCovered two waited 1 (seen 0 0 5)
@@ -110,31 +110,31 @@ abbrev zero_handle : Handle
 zero_handle = record { descriptor = 0; generation = 1 }
 
 installed_hold : own_hold (stand ((run two installed).seats 0)).own ≡ Proper 0 1
-unfolding put next_among steps
+unfolding put_at_index next_among steps
 installed_hold = refl
 
 pub owner_holds : OwnerHolds (run two installed) zero_handle
-unfolding put next_among steps
+unfolding put_at_index next_among steps
 owner_holds = (0, omega arith, installed_hold)
 
 releasing : (stand ((run two decided).seats 0)).pass ≡ Over zero_handle All (changing ∷ []) (At (Release 0 Succeeded))
-unfolding put next_among steps
+unfolding put_at_index next_among steps
 releasing = refl
 
 decided_callers : (run two decided).callers ≡ 2
-unfolding put next_among steps
+unfolding put_at_index next_among steps
 decided_callers = refl
 
 pub pass_releases : SomeoneReleases (run two decided) zero_handle 0
 pass_releases = (0, omega (arith, decided_callers), inl (subst (PassOwes zero_handle 0) (sym releasing) (refl, refl)))
 
-swapped_wake : (stand ((run two (swapped 5)).seats 0)).swap ≡ Swaps (seen 0 0 5) 7 swap.Wake
-unfolding put next_among steps
+swapped_wake : (stand ((run two (worked_swapped 5)).seats 0)).swap ≡ Swaps (seen 0 0 5) 7 swap.Wake
+unfolding put_at_index next_among steps
 swapped_wake = refl
 
-swapped_callers : (run two (swapped 5)).callers ≡ 2
-unfolding put next_among steps
+swapped_callers : (run two (worked_swapped 5)).callers ≡ 2
+unfolding put_at_index next_among steps
 swapped_callers = refl
 
-pub swap_wakes : WakeIsToCome (run two (swapped 5)) (seen 0 0 5)
+pub swap_wakes : WakeIsToCome (run two (worked_swapped 5)) (seen 0 0 5)
 swap_wakes = inr (0, seen 0 0 5, 7, omega (arith, swapped_callers), swapped_wake, refl, refl)

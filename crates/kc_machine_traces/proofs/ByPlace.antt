@@ -3,7 +3,7 @@ use Rattle.std.proofs.Common.{arith, ◌≡◌, ◌<◌, ◌≤◌, ◌∙◌, �
 use Rattle.std.specs.Prelude.{nat_lt}
 use Rattle.std.specs.List.{filter}
 use Rattle.std.proofs.lemmas.Bool.{lt-ltb, le-ltb}
-use Rattle.kc_machine_traces.specs.Histories.{History, Placed, ending, at_place, IsLegalHistory, EachFindsItsReads, RisesByPlace}
+use Rattle.kc_machine_traces.specs.Histories.{History, Placed, ending_store, at_place, IsLegalHistory, EachFindsItsReads, RisesByPlace}
 use Rattle.kc_model.proofs.Stores.{Contains-first, Contains-later}
 use Rattle.kc_model.specs.Rising.{IsRisingAbove}
 use Rattle.kc_model.specs.Store.{Store, Finds, after}
@@ -39,10 +39,10 @@ at_first : (s : Store) (x : Placed) (h : History) → IsRisingAbove x.place (pla
 at_first s x h r =
     let n : nat_lt x.place x.place ≡ false = le-ltb x.place x.place (omega arith) in
     let e = ap (λ b. cond b (x ∷ filter (low x.place) h) (filter (low x.place) h)) n ∙ none_below x.place x.place h (omega arith) r in
-    ap (ending s) e
+    ap (ending_store s) e
 
 at_later : (s : Store) (x : Placed) (h : History) (p : ℕ) → x.place < p → at_place s (x ∷ h) p ≡ at_place (after x.entry.footprint s) h p
-at_later s x h p l = ap (λ b. ending s (cond b (x ∷ filter (low p) h) (filter (low p) h))) (lt-ltb x.place p l)
+at_later s x h p l = ap (λ b. ending_store s (cond b (x ∷ filter (low p) h) (filter (low p) h))) (lt-ltb x.place p l)
 
 -- what F asks of an entry, in order and at places
 module _ (F : Placed → Store → Type 0) where

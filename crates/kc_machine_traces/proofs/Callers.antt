@@ -24,7 +24,7 @@ use Rattle.kc_machine_traces.specs.kc_machine.Works as work
 use Rattle.kc_machine_traces.specs.kc_machine.Machine.{Opening}
 use Rattle.kc_machine_traces.specs.kc_machine.Words.{bit_of}
 use Rattle.kc_machine_traces.specs.Claims.{has_bit, owed_by, owed_by_swap}
-use Rattle.kc_machine_traces.specs.kc_machine_invariants.Stands.{Stand, Waits, resting, aids, owns, commits, hangs, works, stand}
+use Rattle.kc_machine_traces.specs.kc_machine_invariants.Stands.{Stand, Waits, resting, stand_aids, owns, stand_commits, stand_hangs, works, stand}
 use Rattle.kc_machine_traces.specs.kc_machine_invariants.Stands.{Swaps}
 use Rattle.kc_machine_traces.proofs.Swapping.{swap_of, stand_swap}
 use Rattle.kc_machine_traces.specs.Seats.{SwapIn}
@@ -58,7 +58,7 @@ module _ (o : Opening) where
   abbrev Owed : Stand → Type 0
   Owed t = CallersIn o (owed_by t.own)
 
-  aids_owe : (t : Stand) (h : Handle) (i : Intent) (k : ℕ) (r : Reference) (a : Aided) (step : AidStep) → Owed (aids (record t { own = Waits h i k }) r a step)
+  aids_owe : (t : Stand) (h : Handle) (i : Intent) (k : ℕ) (r : Reference) (a : Aided) (step : AidStep) → Owed (stand_aids (record t { own = Waits h i k }) r a step)
   aids_owe t h i k r a (aid.Pass p) = pow_pos o.callers
   aids_owe t h i k r a _ = pow_pos o.callers
 
@@ -69,7 +69,7 @@ module _ (o : Opening) where
   owns_owe t i a h (own.Signal owed) y = y
   owns_owe t i a h _ y = pow_pos o.callers
 
-  commits_owe : (s : Seat) (halted : Bool) (i : Intent) (a : Aided) (x : Stage) → StageIn o a x → Owed (commits (record (resting s) { halted = halted }) i a x)
+  commits_owe : (s : Seat) (halted : Bool) (i : Intent) (a : Aided) (x : Stage) → StageIn o a x → Owed (stand_commits (record (resting s) { halted = halted }) i a x)
   commits_owe s halted i a (Scan d worn) y = pow_pos o.callers
   commits_owe s halted i a (Take d g) y = pow_pos o.callers
   commits_owe s halted i a (Own h step) y = owns_owe (record (resting s) { halted = halted }) i a h step y.1
@@ -80,7 +80,7 @@ module _ (o : Opening) where
   works_owe s (work.Commit c) y = commits_owe s c.halted c.intent c.copy c.stage y.1
   works_owe s (work.Hang h) y = go h.step
     where
-      go : (step : HangStep) → Owed (hangs (resting s) h.reads.items step)
+      go : (step : HangStep) → Owed (stand_hangs (resting s) h.reads.items step)
       go (hang.Look k step) = pow_pos o.callers
       go _ = pow_pos o.callers
   works_owe s (work.Leave l) y = pow_pos o.callers

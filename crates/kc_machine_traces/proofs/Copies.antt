@@ -9,12 +9,12 @@ use Rattle.kc_machine_invariants.specs.kc_machine_steps.declared.aid.AidStep.The
 use Rattle.kc_machine_invariants.specs.kc_machine_steps.declared.aid.AidNext.TheVariants as aiding
 use Rattle.kc_machine_invariants.specs.kc_machine_commits.declared.commit.OwnStep.TheVariants as own
 use Rattle.kc_machine_invariants.proofs.kc_machine.Functions.{put_cases}
-use Rattle.kc_machine_invariants.specs.kc_machine.Machine.{World, Opening, put, run, opened}
+use Rattle.kc_machine_invariants.specs.kc_machine.Machine.{World, Opening, put_at_index, run, opened_state}
 use Rattle.kc_machine_invariants.specs.kc_machine_commits.Halts.{halted_aid, halted_aid_pass}
 use Rattle.kc_machine_invariants.specs.Holds.{Proper, aid_hold}
 use Rattle.kc_machine_invariants.specs.Stands.{Stand, Owns, Aiding, NoAid, Aids, Passes, stand}
 use Rattle.kc_machine_invariants.specs.kc_machine_steps.Aids.{copy_line}
-use Rattle.kc_machine_invariants.specs.kc_machine_steps.Lines.{joined}
+use Rattle.kc_machine_invariants.specs.kc_machine_steps.Lines.{line_of_halves}
 use Rattle.kc_machine_invariants.specs.kc_machine_steps.declared.pass.PassStep.{PassStep}
 use Rattle.kc_machine_invariants.specs.kc_machine_steps.declared.pass.PassStep.TheVariants.{Install, Check, CheckHold, CheckStatus, CheckFirst, CheckDrop, Decide, Release}
 use Rattle.kc_machine_invariants.specs.kc_machine_steps.declared.task.Event.{Event}
@@ -48,7 +48,7 @@ pub record SameWords (w v : World) (d : ℕ) : Type 0 where
   pub second : w.second d ≡ v.second d
 
 loaded_stays : (w v : World) (r : Reference) (c : Aided) → SameWords w v r.handle.descriptor → IsLoaded w r c → IsLoaded v r c
-loaded_stays w v r c s h = record { owner = h.owner ∙ s.owner; lines = h.lines ∙ (λ j. listed (λ i. joined (s.first j i) (s.second j i)) (length c.lines.items)) }
+loaded_stays w v r c s h = record { owner = h.owner ∙ s.owner; lines = h.lines ∙ (λ j. listed (λ i. line_of_halves (s.first j i) (s.second j i)) (length c.lines.items)) }
 
 -- where it holds none, or the words stay
 stays_copied : (w v : World) (x : Aiding) → ((d g : ℕ) → aid_hold x ≡ Proper d g → SameWords w v d) → CopyIsTrue w x → CopyIsTrue v x
@@ -82,14 +82,14 @@ owner_fills k _ d = inl refl
 
 pub first_fills : (k : ℕ) {w w' : World} {s s' : Stand} → Effect k w s w' s' → (d : ℕ) → (w.first d ≡ w'.first d) ⊎ Filling s d
 first_fills k (Effects.fill_first {w} s {h = h} {i = i} {j = j} x e) d =
-    put_cases (λ y. (w.first d ≡ y) ⊎ Filling (record s { own = Owns h i (own.FillFirst j) }) d) w.first h.descriptor (put (w.first h.descriptor) j (first_of x)) d
+    put_cases (λ y. (w.first d ≡ y) ⊎ Filling (record s { own = Owns h i (own.FillFirst j) }) d) w.first h.descriptor (put_at_index (w.first h.descriptor) j (first_of x)) d
     (λ q. inr (h.generation, record { owns = ap (λ y. Proper y h.generation) (sym q); early = refl }))
     (λ ne. inl refl)
 first_fills k _ d = inl refl
 
 pub second_fills : (k : ℕ) {w w' : World} {s s' : Stand} → Effect k w s w' s' → (d : ℕ) → (w.second d ≡ w'.second d) ⊎ Filling s d
 second_fills k (Effects.fill_second {w} s {h = h} {i = i} {j = j} x e) d =
-    put_cases (λ y. (w.second d ≡ y) ⊎ Filling (record s { own = Owns h i (own.FillSecond j) }) d) w.second h.descriptor (put (w.second h.descriptor) j (second_of x)) d
+    put_cases (λ y. (w.second d ≡ y) ⊎ Filling (record s { own = Owns h i (own.FillSecond j) }) d) w.second h.descriptor (put_at_index (w.second h.descriptor) j (second_of x)) d
     (λ q. inr (h.generation, record { owns = ap (λ y. Proper y h.generation) (sym q); early = refl }))
     (λ ne. inl refl)
 second_fills k _ d = inl refl
@@ -115,11 +115,11 @@ line_loaded : (w : World) (r : Reference) (c : Aided) (f : First) → IsLoaded w
     → IsLoaded w r (copy_line c f (found.Second (w.second r.handle.descriptor (length c.lines.items))))
 line_loaded w r c f h e = go (length c.lines.items == MOST)
   where
-    go : (b : Bool) → IsLoaded w r (if b then c else record c { lines = record { items = c.lines.items ++ joined f (w.second r.handle.descriptor (length c.lines.items)) ∷ [] } })
+    go : (b : Bool) → IsLoaded w r (if b then c else record c { lines = record { items = c.lines.items ++ line_of_halves f (w.second r.handle.descriptor (length c.lines.items)) ∷ [] } })
     go true = h
     go false = record {
       owner = h.owner;
-      lines = more_listed (line_of_words w r.handle.descriptor) c.lines.items _ h.lines (ap (λ g. joined g (w.second r.handle.descriptor (length c.lines.items))) e);
+      lines = more_listed (line_of_words w r.handle.descriptor) c.lines.items _ h.lines (ap (λ g. line_of_halves g (w.second r.handle.descriptor (length c.lines.items))) e);
     }
 
 halted_loaded : (w : World) (r : Reference) (c : Aided) (a b : AidStep) → halted_aid a ≡ Some b → LoadedAt w r c a → LoadedAt w r c b
@@ -175,7 +175,7 @@ pub record Copies (n m : ℕ) (w : World) (at : ℕ → Stand) : Type 0 where
 held_out : (w : World) (x : Aiding) (d g : ℕ) → ((r : Reference) → met_by_aid x ≡ Some r → r.handle.generation ≤ (w.status r.handle.descriptor).generation) → aid_hold x ≡ Proper d g → g ≤ (w.status d).generation
 held_out w x d g f q = Rattle.kc_machine_invariants.proofs.Published.aid_out w x d g q f
 
-pub copies_effect : (n m k : ℕ) → k < n → (w w' : World) (at : ℕ → Stand) (s' : Stand) → Effect k w (at k) w' s' → Copies n m w at → Copies n m w' (put at k s')
+pub copies_effect : (n m k : ℕ) → k < n → (w w' : World) (at : ℕ → Stand) (s' : Stand) → Effect k w (at k) w' s' → Copies n m w at → Copies n m w' (put_at_index at k s')
 copies_effect n m k l w w' at s' e p = record {
   lives = lives_effect n m k l at e p.lives;
   copied = λ j b. put_cases (λ t. CopyIsTrue w' t.aid) at k s' j
@@ -196,7 +196,7 @@ copies_effect n m k l w w' at s' e p = record {
         let low = subst (λ y. Follows y (w.status d).generation i) f.early (p.lives.owned k l d i f.owns) in
         let z : ⊥ = omega arith in z
 
-pub opened_copies : (o : Opening) → Copies o.callers (opened o).descriptors (opened o).world (λ k. stand ((opened o).seats k))
+pub opened_copies : (o : Opening) → Copies o.callers (opened_state o).descriptors (opened_state o).world (λ k. stand ((opened_state o).seats k))
 opened_copies o = record { lives = opened_lives o; copied = λ k l. tt; bound = λ k. tt }
 
 pub copies_after : (o : Opening) (es : List Event) → Copies (run o es).callers (run o es).descriptors (run o es).world (λ k. stand ((run o es).seats k))

@@ -33,19 +33,19 @@ use Rattle.kc_machine_traces.proofs.Follows.{trace_runs}
 use Rattle.kc_machine_traces.specs.Histories.{History, Placed, inserted}
 use Rattle.kc_machine_traces.specs.Traces.{Trace, is_success, decides, caller_for, number_for, entry_for, history_after, history_by_swap, place_or, trace, now}
 use Rattle.kc_machine_invariants.specs.Holds.{Proper, own_hold}
-use Rattle.kc_machine_invariants.specs.Stands.{Stand, Own, NoOwn, Owns, Runs, Waits, Passing, NoPass, Over, Aiding, stand, works, resting, commits, owns, aids, hangs}
+use Rattle.kc_machine_invariants.specs.Stands.{Stand, Own, NoOwn, Owns, Runs, Waits, Passing, NoPass, Over, Aiding, stand, works, resting, stand_commits, owns, stand_aids, stand_hangs}
 use Rattle.kc_machine_invariants.proofs.LifeLaws.{active_owned}
 use Rattle.kc_machine_invariants.specs.Filled.{owner_word, OwnerIsFilled, FirstsAreFilled, SecondsAreFilled}
 use Rattle.kc_machine_invariants.specs.Owners.{Undecided, is_filling}
 use Rattle.kc_machine_invariants.specs.Started.{listed, line_of_words}
 use Rattle.kc_machine_invariants.proofs.SeatedSteps.{seats_stay}
-use Rattle.kc_machine_invariants.specs.kc_machine_steps.Lines.{joined, first_of, second_of}
+use Rattle.kc_machine_invariants.specs.kc_machine_steps.Lines.{line_of_halves, first_of, second_of}
 use Rattle.kc_machine_traces.proofs.Copies.{copies_after, passes_whole}
 use Rattle.kc_machine_traces.proofs.Joins.{run-append, trace-append, every}
 use Rattle.kc_machine_traces.proofs.Others.{run_shape, event_out, undecided, others_leave}
 use Rattle.kc_machine_traces.proofs.Stood.{same_call}
-use Rattle.kc_machine_traces.specs.Copies.{CopyIsTrue, IsWhole}
-use Rattle.kc_machine_traces.specs.Entries.{by, AreOfCallers, own_intent}
+use Rattle.kc_machine_traces.specs.Copies.{CopyIsTrue, AidIsWhole}
+use Rattle.kc_machine_traces.specs.Entries.{placed_by, AreOfCallers, own_intent}
 use Rattle.kc_machine_traces.specs.Parts.{NoneOf}
 use Rattle.kc_machine_traces.specs.Swaps.{SwapOf, swapped}
 use Rattle.kc_machine_traces.proofs.Swapping.{swap_cases, swap_enters, swap_passless}
@@ -55,14 +55,14 @@ use Rattle.kc_machine_invariants.specs.kc_machine_words.declared.words.Mode.{Mod
 -- ---- insertions
 
 -- an entry of another caller
-by_other : (k : ℕ) (x : Placed) (h : History) → x.entry.caller ≢ k → by k (x ∷ h) ≡ by k h
-by_other k x h ne = ap (λ b. cond b (x ∷ by k h) (by k h)) (ne_eqb x.entry.caller k ne)
+by_other : (k : ℕ) (x : Placed) (h : History) → x.entry.caller ≢ k → placed_by k (x ∷ h) ≡ placed_by k h
+by_other k x h ne = ap (λ b. cond b (x ∷ placed_by k h) (placed_by k h)) (ne_eqb x.entry.caller k ne)
 
-pub by_inserted : (k : ℕ) (x : Placed) (h : History) → x.entry.caller ≢ k → by k (inserted x h) ≡ by k h
+pub by_inserted : (k : ℕ) (x : Placed) (h : History) → x.entry.caller ≢ k → placed_by k (inserted x h) ≡ placed_by k h
 by_inserted k x [] ne = by_other k x [] ne
 by_inserted k x (y ∷ h) ne = go (by_inserted k x h ne) (nat_lt x.place y.place)
   where
-    go : by k (inserted x h) ≡ by k h → (b : Bool) → by k (if b then x ∷ y ∷ h else y ∷ inserted x h) ≡ by k (y ∷ h)
+    go : placed_by k (inserted x h) ≡ placed_by k h → (b : Bool) → placed_by k (if b then x ∷ y ∷ h else y ∷ inserted x h) ≡ placed_by k (y ∷ h)
     go r true = by_other k x (y ∷ h) ne
     go r false = ap (λ z. cond (y.entry.caller == k) (y ∷ z) z) r
 
@@ -83,10 +83,10 @@ was_active (Failed k) q e = absurd (cc)
 was_active (Crossed k) q e = absurd (cc)
 was_active Halted q e = absurd (cc)
 
-line_again : (x : Line) → joined (first_of x) (second_of x) ≡ x
+line_again : (x : Line) → line_of_halves (first_of x) (second_of x) ≡ x
 line_again x = go x.seen x.put
   where
-    go : (r : Seen) (p : Option ℕ) → joined (first_of (record { seen = r; put = p })) (second_of (record { seen = r; put = p })) ≡ record { seen = r; put = p }
+    go : (r : Seen) (p : Option ℕ) → line_of_halves (first_of (record { seen = r; put = p })) (second_of (record { seen = r; put = p })) ≡ record { seen = r; put = p }
     go r None = refl
     go r (Some y) = refl
 
@@ -110,7 +110,7 @@ stored w caller calls (Runs h i) y d g q u f a b =
       intent = i;
       has = refl;
       owner = f h i refl tt;
-      lines = lists_again (line_of_words w h.descriptor) i.lines.items (λ j x r. ap (λ z. joined z (w.second h.descriptor j)) (a h i j x refl r tt) ∙ ap (joined (first_of x)) (b h i j x refl r tt) ∙ line_again x);
+      lines = lists_again (line_of_words w h.descriptor) i.lines.items (λ j x r. ap (λ z. line_of_halves z (w.second h.descriptor j)) (a h i j x refl r tt) ∙ ap (line_of_halves (first_of x)) (b h i j x refl r tt) ∙ line_again x);
     })
 stored w caller calls (Waits h i n) y d g q u f a b =
     let e : h.descriptor ≡ d = cc in
@@ -118,7 +118,7 @@ stored w caller calls (Waits h i n) y d g q u f a b =
       intent = i;
       has = refl;
       owner = f h i refl tt;
-      lines = lists_again (line_of_words w h.descriptor) i.lines.items (λ j x r. ap (λ z. joined z (w.second h.descriptor j)) (a h i j x refl r tt) ∙ ap (joined (first_of x)) (b h i j x refl r tt) ∙ line_again x);
+      lines = lists_again (line_of_words w h.descriptor) i.lines.items (λ j x r. ap (λ z. line_of_halves z (w.second h.descriptor j)) (a h i j x refl r tt) ∙ ap (line_of_halves (first_of x)) (b h i j x refl r tt) ∙ line_again x);
     })
 
 undecided_started : (x : Own) (y : Passing) → Undecided x y → is_filling x ≡ false
@@ -224,9 +224,9 @@ module _ (o : Opening) (es : List Event) where
           }
 
       abbrev EntersAt : Stand → Type 0
-      EntersAt t = CopyIsTrue (run o es).world t.aid × IsWhole t.aid → t.own ≡ (stand s).own → Enters t.caller t.calls t.aid t.pass
+      EntersAt t = CopyIsTrue (run o es).world t.aid × AidIsWhole t.aid → t.own ≡ (stand s).own → Enters t.caller t.calls t.aid t.pass
 
-      aid_enters : (b : Bool) (h : Handle) (i : Intent) (k : ℕ) (r : Reference) (c : Aided) (a : AidStep) → EntersAt (aids (record (resting s) { halted = b; own = Waits h i k }) r c a)
+      aid_enters : (b : Bool) (h : Handle) (i : Intent) (k : ℕ) (r : Reference) (c : Aided) (a : AidStep) → EntersAt (stand_aids (record (resting s) { halted = b; own = Waits h i k }) r c a)
       aid_enters b h i k r c aid.Hold y m = tt
       aid_enters b h i k r c aid.Status y m = tt
       aid_enters b h i k r c (aid.First p) y m = tt
@@ -253,12 +253,12 @@ module _ (o : Opening) (es : List Event) where
       own_enters c h (own.Signal owed) y m = tt
       own_enters c h (own.Drop p) y m = tt
 
-      stage_enters : (c : Commit) (x : Stage) → EntersAt (commits (record (resting s) { halted = c.halted }) c.intent c.copy x)
+      stage_enters : (c : Commit) (x : Stage) → EntersAt (stand_commits (record (resting s) { halted = c.halted }) c.intent c.copy x)
       stage_enters c (stage.Scan d worn) y m = tt
       stage_enters c (stage.Take d g) y m = tt
       stage_enters c (stage.Own h step) y m = own_enters c h step y m
 
-      hang_enters : (reads : List Seen) (step : HangStep) → EntersAt (hangs (resting s) reads step)
+      hang_enters : (reads : List Seen) (step : HangStep) → EntersAt (stand_hangs (resting s) reads step)
       hang_enters reads (hang.Set k) y m = tt
       hang_enters reads (hang.Look k step) y m = tt
       hang_enters reads (hang.Clear k n) y m = tt
@@ -354,8 +354,8 @@ swap_number o es e x y =
 -- the entries of a caller stay where its seat neither swaps nor owns what is decided
 pub by_no_swap : (o : Opening) (es : List Event) (e : Event) (k : ℕ) → ((x : Placed) → SwapOf (run o es) e (trace o es).clock x → seat_of e ≡ k → ⊥)
     → ((x : Placed) → Entering o es (event_of (run o es) e).world x.entry.caller x.entry.number → x.entry.caller ≡ k → ⊥)
-    → by k (trace o (es ++ e ∷ [])).history ≡ by k (trace o es).history
-by_no_swap o es e k never none = history_grows o es (λ h. by k h ≡ by k (trace o es).history) e refl
+    → placed_by k (trace o (es ++ e ∷ [])).history ≡ placed_by k (trace o es).history
+by_no_swap o es e k never none = history_grows o es (λ h. placed_by k h ≡ placed_by k (trace o es).history) e refl
     (λ x n. by_inserted k x _ (none x n))
     (λ x n. by_inserted k x _ (λ q. never x n (sym (swapper o es e x n) ∙ q)))
 
@@ -371,13 +371,13 @@ entries_of_callers o = every (λ es. AreOfCallers o.callers (trace o es).history
     (All-nil (λ (y : Placed). y.entry.caller < o.callers))
 
 -- the entries of an idle seat's caller stay, whatever happens
-pub idle_keeps : (o : Opening) (es : List Event) (k : ℕ) (e : Event) → is_idle ((run o es).seats k).work ≡ true → by k (trace o (es ++ e ∷ [])).history ≡ by k (trace o es).history
+pub idle_keeps : (o : Opening) (es : List Event) (k : ℕ) (e : Event) → is_idle ((run o es).seats k).work ≡ true → placed_by k (trace o (es ++ e ∷ [])).history ≡ placed_by k (trace o es).history
 idle_keeps o es k e i = by_no_swap o es e k (λ x n q. idle_swaps_none o es e k i x n q)
     (λ x n q. unowning ((run o es).seats k) n.descriptor n.generation i (subst (λ c. own_hold (stand ((run o es).seats c)).own ≡ Proper n.descriptor n.generation) q n.owns))
 
-pub idle_gains_none : (o : Opening) (es more : List Event) (k : ℕ) → is_idle ((run o es).seats k).work ≡ true → NoneOf k more → by k (trace o (es ++ more)).history ≡ by k (trace o es).history
-idle_gains_none o es [] k i n = ap (λ x. by k (trace o x).history) (append-nil es)
+pub idle_gains_none : (o : Opening) (es more : List Event) (k : ℕ) → is_idle ((run o es).seats k).work ≡ true → NoneOf k more → placed_by k (trace o (es ++ more)).history ≡ placed_by k (trace o es).history
+idle_gains_none o es [] k i n = ap (λ x. placed_by k (trace o x).history) (append-nil es)
 idle_gains_none o es (e ∷ more) k i n =
     let at = others_leave o es (e ∷ []) k (n.0, tt) in
     let r = idle_gains_none o (es ++ e ∷ []) more k (ap (λ (s : Seat). is_idle s.work) at ∙ i) n.1 in
-    ap (λ x. by k (trace o x).history) (sym (append_assoc es (e ∷ []) more)) ∙ r ∙ idle_keeps o es k e i
+    ap (λ x. placed_by k (trace o x).history) (sym (append_assoc es (e ∷ []) more)) ∙ r ∙ idle_keeps o es k e i

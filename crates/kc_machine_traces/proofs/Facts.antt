@@ -16,7 +16,7 @@ use Rattle.kc_model.specs.declared.word.Word.TheVariants.{Ref}
 use Rattle.kc_machine_traces.specs.kc_machine_steps.declared.aid.AidStep.TheVariants as aid
 use Rattle.kc_machine_traces.specs.kc_machine_steps.declared.aid.AidNext.TheVariants as aiding
 use Rattle.kc_machine_traces.proofs.kc_machine.Functions.{put_here, put_cases}
-use Rattle.kc_machine_traces.specs.kc_machine.Machine.{World, put}
+use Rattle.kc_machine_traces.specs.kc_machine.Machine.{World, put_at_index}
 use Rattle.kc_machine_traces.specs.Claims.{step_owes, PassOwes, OwesRelease}
 use Rattle.kc_machine_traces.specs.kc_machine_invariants.Effects.{Effect}
 use Rattle.kc_machine_traces.specs.kc_machine_invariants.Holds.{Proper, held, own_hold, aid_hold}
@@ -40,7 +40,7 @@ use Rattle.kc_machine_traces.proofs.kc_machine_invariants.Statuses.{control_grow
 use Rattle.kc_machine_traces.specs.kc_machine_invariants.Filled.{task}
 use Rattle.kc_machine_traces.specs.kc_machine_invariants.Owners.{Follows, is_filling}
 use Rattle.kc_machine_traces.specs.kc_machine_invariants.References.{met_by_pass, met_by_aid, onward_by_aid, met_by_look}
-use Rattle.kc_machine_traces.specs.kc_machine_steps.Lines.{after_line, word_of, is_installed}
+use Rattle.kc_machine_traces.specs.kc_machine_steps.Lines.{after_line, reference_word, is_installed}
 use Rattle.kc_machine_traces.specs.kc_machine_steps.Passes.{status}
 use Rattle.kc_machine_traces.proofs.Copies.{Copies, SameWords, copies_effect}
 
@@ -186,7 +186,7 @@ module _ (n m k : ℕ) (l : k < n) {w w' : World} (at : ℕ → Stand) {s' : Sta
   stands_on : (a g d i : ℕ) → w'.status d ≡ status g Active → w.word a ≡ Ref g d i → w'.word a ≡ Ref g d i
   stands_on a g d i q y = ⊎_elim (λ z. z) (λ z. absurd (no_release z)) (word_later k e a g d i y)
     where
-      undecided : (h : Handle) (j : ℕ) (x : Phase) → IsDecided w h x → word_of h j ≡ Ref g d i → w'.status ≡ w.status → ⊥
+      undecided : (h : Handle) (j : ℕ) (x : Phase) → IsDecided w h x → reference_word h j ≡ Ref g d i → w'.status ≡ w.status → ⊥
       undecided h j x c r s =
           let b : h.descriptor ≡ d = cc in
           let z : status h.generation x ≡ status g Active = sym c.0 ∙ ap w.status b ∙ ap (λ (u : ℕ → Status). u d) (sym s) ∙ q in
@@ -290,7 +290,7 @@ module _ (n m k : ℕ) (l : k < n) {w w' : World} (at : ℕ → Stand) {s' : Sta
 
   -- ---- who owes
 
-  owes_next : (a g d i : ℕ) → w'.word a ≡ Ref g d i → (w'.status d).phase ≢ Active → w.word a ≡ Ref g d i → (j : ℕ) → j < n → OwesRelease (life d g) i (at j) → OwesRelease (life d g) i (put at k s' j)
+  owes_next : (a g d i : ℕ) → w'.word a ≡ Ref g d i → (w'.status d).phase ≢ Active → w.word a ≡ Ref g d i → (j : ℕ) → j < n → OwesRelease (life d g) i (at j) → OwesRelease (life d g) i (put_at_index at k s' j)
   owes_next a g d i q ne y j b o = put_cases (λ t. OwesRelease (life d g) i t) at k s' j
       (λ z.
       let x = f.fit a g d i y in
@@ -304,7 +304,7 @@ module _ (n m k : ℕ) (l : k < n) {w w' : World} (at : ℕ → Stand) {s' : Sta
       let h : y.handle ≡ life d g = (λ i. record { descriptor = o i; generation = u i }) in
       inl (subst (PassOwes (life d g) i) (sym y.after) (h, ap (step_owes i) y.goes ∙ install_owes (life d g) i y.mode y.lines (after_line y.step)))
 
-  facts_owed : (a g d i : ℕ) → w'.word a ≡ Ref g d i → (w'.status d).phase ≢ Active → (j : ℕ) × (j < n) × OwesRelease (life d g) i (put at k s' j)
+  facts_owed : (a g d i : ℕ) → w'.word a ≡ Ref g d i → (w'.status d).phase ≢ Active → (j : ℕ) × (j < n) × OwesRelease (life d g) i (put_at_index at k s' j)
   facts_owed a g d i q ne = ⊎_elim
       (λ y. let o = somebody n m w at f a g d i y in (o.0, o.1, owes_next a g d i q ne y o.0 o.1 o.2))
       (λ y. (k, l, subst (OwesRelease (life d g) i) (sym (put_here at k s')) (installs_owes a g d i y)))
@@ -312,7 +312,7 @@ module _ (n m k : ℕ) (l : k < n) {w w' : World} (at : ℕ → Stand) {s' : Sta
 
   -- ---- halts
 
-  copies_next : Copies n m w' (put at k s')
+  copies_next : Copies n m w' (put_at_index at k s')
   copies_next = copies_effect n m k l w w' at s' e f.copies
 
   halted_other : (j d g : ℕ) → j < n → j ≢ k → own_hold (at j).own ≡ Proper d g → w'.status d ≡ status g Halted → (at j).halted ≡ true
@@ -343,7 +343,7 @@ module _ (n m k : ℕ) (l : k < n) {w w' : World} (at : ℕ → Stand) {s' : Sta
     look = look_own (Exists w') k e in_words x.look;
   }
 
-  pub facts_effect : Facts n m w' (put at k s')
+  pub facts_effect : Facts n m w' (put_at_index at k s')
   facts_effect = record {
     copies = copies_next;
     fit = facts_fit;

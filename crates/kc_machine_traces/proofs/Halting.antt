@@ -28,7 +28,7 @@ use Rattle.kc_machine_traces.specs.kc_machine.Machine.{World}
 use Rattle.kc_machine_traces.specs.kc_machine.declared.seat.Seat.{Seat}
 use Rattle.kc_machine_traces.specs.kc_machine_invariants.Effects
 use Rattle.kc_machine_traces.specs.kc_machine_invariants.Holds.{Proper, own_hold}
-use Rattle.kc_machine_traces.specs.kc_machine_invariants.Stands.{Stand, Turn, At, Own as Owning, NoOwn, Owns, Runs, Waits, NoPass, Over, stand, works, resting, commits, owns, aids, hangs}
+use Rattle.kc_machine_traces.specs.kc_machine_invariants.Stands.{Stand, Turn, At, Own as Owning, NoOwn, Owns, Runs, Waits, NoPass, Over, stand, works, resting, stand_commits, owns, stand_aids, stand_hangs}
 use Rattle.kc_machine_traces.proofs.kc_machine_invariants.Shapes.{Shape, own_course, aid_course, same_course}
 use Rattle.kc_machine_traces.specs.kc_machine_invariants.Owners.{is_filling}
 use Rattle.kc_machine_traces.specs.kc_machine_invariants.Fits.{StepFits, AidFits, OwnFits, StageFits, WorkFits}
@@ -45,7 +45,7 @@ same_over h e m n xs ys p q z = (cc, cc)
 decides_halted : (b : Bool) (out : AfterCheck) (m : Mode) (xs : List Line) (p : PassStep) → p ≡ Decide Halted → StepFits b out m xs p → (b ≡ true) × (out ≡ checked.Decide Halted)
 decides_halted b out m xs p e f = (subst (StepFits b out m xs) e f).1 refl
 
-aid_halts : (t : Stand) → HaltsAt t → (b : Bool) (r : Reference) (c : Aided) (a : AidStep) → AidFits b c a → HaltsAt (aids t r c a)
+aid_halts : (t : Stand) → HaltsAt t → (b : Bool) (r : Reference) (c : Aided) (a : AidStep) → AidFits b c a → HaltsAt (stand_aids t r c a)
 aid_halts t y b r c (aid.Pass p) f = λ h mode xs q.
     let z = same_over _ _ _ _ _ _ p (Decide Halted) q in
     let n = decides_halted b checked.Leave c.owner.mode c.lines.items p z.1 f in
@@ -80,12 +80,12 @@ module _ (s : Seat) where
   own_halts c h (own.Signal owed) f = λ e mode xs q. unhalted e mode xs _ q
   own_halts c h (own.Drop p) f = λ e mode xs q. unhalted e mode xs _ q
 
-  stage_halts : (c : Commit) (x : Stage) → StageFits c.halted c.intent c.copy x → HaltsAt (commits (record (resting s) { halted = c.halted }) c.intent c.copy x)
+  stage_halts : (c : Commit) (x : Stage) → StageFits c.halted c.intent c.copy x → HaltsAt (stand_commits (record (resting s) { halted = c.halted }) c.intent c.copy x)
   stage_halts c (Scan d worn) f = λ e mode xs q. unhalted e mode xs _ q
   stage_halts c (Take d g) f = λ e mode xs q. unhalted e mode xs _ q
   stage_halts c (Own h step) f = own_halts c h step f
 
-  hang_halts : (reads : List Seen) (step : HangStep) → HaltsAt (hangs (resting s) reads step)
+  hang_halts : (reads : List Seen) (step : HangStep) → HaltsAt (stand_hangs (resting s) reads step)
   hang_halts reads (hang.Set k) = λ e mode xs q. unhalted e mode xs _ q
   hang_halts reads (hang.Look k step) = λ e mode xs q. unhalted e mode xs _ q
   hang_halts reads (hang.Clear k changed) = λ e mode xs q. unhalted e mode xs _ q

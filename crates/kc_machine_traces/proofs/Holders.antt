@@ -9,7 +9,7 @@ use Rattle.kc_machine_traces.specs.kc_machine_steps.declared.aid.AidNext.{AidNex
 use Rattle.kc_machine_traces.specs.kc_machine_steps.declared.aid.AidNext.TheVariants as aiding
 use Rattle.kc_machine_traces.specs.kc_machine.Machine.{World}
 use Rattle.kc_machine_traces.specs.Claims.{turn_owes, PassOwes, OwnOwes, next_owes, AidOwes, OwesRelease}
-use Rattle.kc_machine_traces.specs.kc_machine_invariants.Holds.{Proper, Has, held, own_hold, aid_hold}
+use Rattle.kc_machine_traces.specs.kc_machine_invariants.Holds.{Proper, HasHold, held, own_hold, aid_hold}
 use Rattle.kc_machine_traces.specs.kc_machine_invariants.Stands.{Stand, Turn, At, Meets, Ends, Leaves, Own, NoOwn, Owns, Runs, Waits, Passing, NoPass, Over, Aiding, NoAid, Aids, Passes}
 use Rattle.kc_machine_traces.proofs.Targets.{course}
 use Rattle.kc_machine_traces.proofs.kc_machine_invariants.Phases.{Undecides}
@@ -38,20 +38,20 @@ leaves_held r c (aiding.Goes (aid.Drop stray o)) q = absurd (cc)
 leaves_held r c (aiding.Back o) q = absurd (cc)
 
 -- who owes holds
-pub owes_held : (n m : ℕ) (w : World) (at : ℕ → Stand) (c : Copies n m w at) (j : ℕ) → j < n → (h : Handle) (i : ℕ) → OwesRelease h i (at j) → Has (at j) (Proper h.descriptor h.generation)
+pub owes_held : (n m : ℕ) (w : World) (at : ℕ → Stand) (c : Copies n m w at) (j : ℕ) → j < n → (h : Handle) (i : ℕ) → OwesRelease h i (at j) → HasHold (at j) (Proper h.descriptor h.generation)
 owes_held n m w at c j l h i o = ⊎_elim (in_pass (at j).pass refl) (λ x. ⊎_elim (as_owner (at j).own refl) (in_aid (at j).aid refl) x) o
   where
-    in_pass : (x : Passing) → (at j).pass ≡ x → PassOwes h i x → Has (at j) (Proper h.descriptor h.generation)
+    in_pass : (x : Passing) → (at j).pass ≡ x → PassOwes h i x → HasHold (at j) (Proper h.descriptor h.generation)
     in_pass NoPass e o = absurd o
-    in_pass (Over e' mode xs t) e o = subst (λ (y : Handle). Has (at j) (Proper y.descriptor y.generation)) o.0 (course n m w at c j l e' mode xs (ap goes_over e)).held
+    in_pass (Over e' mode xs t) e o = subst (λ (y : Handle). HasHold (at j) (Proper y.descriptor y.generation)) o.0 (course n m w at c j l e' mode xs (ap goes_over e)).held
 
-    as_owner : (x : Own) → (at j).own ≡ x → OwnOwes h x → Has (at j) (Proper h.descriptor h.generation)
+    as_owner : (x : Own) → (at j).own ≡ x → OwnOwes h x → HasHold (at j) (Proper h.descriptor h.generation)
     as_owner NoOwn e o = absurd o
     as_owner (Owns y z step) e o = absurd o
     as_owner (Runs y z) e o = absurd o
     as_owner (Waits y z k) e o = inl (ap own_hold e ∙ ap (λ (a : Handle). Proper a.descriptor a.generation) o)
 
-    in_aid : (x : Aiding) → (at j).aid ≡ x → AidOwes h x → Has (at j) (Proper h.descriptor h.generation)
+    in_aid : (x : Aiding) → (at j).aid ≡ x → AidOwes h x → HasHold (at j) (Proper h.descriptor h.generation)
     in_aid NoAid e o = absurd o
     in_aid (Aids r a y) e o = inr (inr (inl (ap aid_hold e ∙ leaves_held r a y o.1 ∙ ap (λ (a : Handle). Proper a.descriptor a.generation) o.0)))
     in_aid (Passes r a) e o = absurd o

@@ -27,7 +27,7 @@ use Rattle.kc_machine_traces.specs.Passed.{gone_by_phase, gone_by_step, gone_by,
 use Rattle.kc_machine_traces.proofs.kc_machine_invariants.Filled.{one_behind}
 use Rattle.kc_machine_traces.proofs.kc_machine_invariants.Phases.{same_step}
 use Rattle.kc_machine_traces.proofs.kc_machine_invariants.Shapes.{Shape, same_course}
-use Rattle.kc_machine_traces.specs.kc_machine_steps.Lines.{next_line, after_line, word_of, is_installed}
+use Rattle.kc_machine_traces.specs.kc_machine_steps.Lines.{next_line, after_line, reference_word, is_installed}
 use Rattle.kc_machine_traces.specs.kc_machine_steps.Passes.{status, from_install, from_release, release_or_finish, check_drop_next, decided_as}
 
 gone_phase : (p : Phase) → gone_by_phase p ≤ MOST
@@ -83,24 +83,24 @@ module _ (w : World) (h : Handle) (m : Mode) (xs : List Line) where
   begins q e = λ y k x l a i. let g = ap gone_by_step e in let z = gone_install m xs 0 k x (omega arith) a i in absurd (omega arith)
 
   -- line j stands in its word
-  goes_on : (q : PassStep) (j : ℕ) (x : Line) → q ≡ from_install m xs (after_line j) → slice_get xs j ≡ Some x → w.word x.seen.loc.0 ≡ word_of h j → InstalledBelow w h m xs j → InstalledBelow w h m xs (gone_by_step q)
+  goes_on : (q : PassStep) (j : ℕ) (x : Line) → q ≡ from_install m xs (after_line j) → slice_get xs j ≡ Some x → w.word x.seen.loc.0 ≡ reference_word h j → InstalledBelow w h m xs j → InstalledBelow w h m xs (gone_by_step q)
   goes_on q j x e a here f = λ y k z l b i.
       let g = ap gone_by_step e in
       let n = gone_install m xs (after_line j) k z (omega arith) b i in
       let o = one_behind j in
       go y k z b i (omega arith) (k == j) refl
     where
-      go : IsActive w h → (k : ℕ) (z : Line) → slice_get xs k ≡ Some z → is_installed m z ≡ true → k ≤ j → (t : Bool) → (k == j) ≡ t → w.word z.seen.loc.0 ≡ word_of h k
+      go : IsActive w h → (k : ℕ) (z : Line) → slice_get xs k ≡ Some z → is_installed m z ≡ true → k ≤ j → (t : Bool) → (k == j) ≡ t → w.word z.seen.loc.0 ≡ reference_word h k
       go y k z b i l true t =
           let s = eqb-true k j t in
           let v = some_line (slice_get xs j) x z a (ap (slice_get xs) (sym s) ∙ b) in
-          ap (λ (v : Line). w.word v.seen.loc.0) (sym v) ∙ here ∙ ap (word_of h) (sym s)
+          ap (λ (v : Line). w.word v.seen.loc.0) (sym v) ∙ here ∙ ap (reference_word h) (sym s)
       go y k z b i l false t = let n = eqb-false k j t in f y k z (omega (arith, n)) b i
 
 -- behind the step's words
 pub passed_own : (k : ℕ) {w w' : World} {s s' : Stand} → Effects.Effect k w s w' s' → PassedAreInstalled w' s.pass → WaitingAreInstalled w' s.own → PassedAreInstalled w' s'.pass
 passed_own k (Effects.start {w} s {h} {i} q e z) f o = begins (with_status w h.descriptor (status h.generation Active)) h i.mode i.lines.items q e
-passed_own k (Effects.install {w} s {h} {m} {xs} {j} x q a b e z put_in low) f o = goes_on (with_word w x.seen.loc.0 (word_of h j)) h m xs q j x e a (put_here w.word x.seen.loc.0 (word_of h j)) f
+passed_own k (Effects.install {w} s {h} {m} {xs} {j} x q a b e z put_in low) f o = goes_on (with_word w x.seen.loc.0 (reference_word h j)) h m xs q j x e a (put_here w.word x.seen.loc.0 (reference_word h j)) f
 passed_own k (Effects.installed {w} s {h} {m} {xs} {j} x q a b e z) f o = goes_on w h m xs q j x e a b f
 passed_own k (Effects.unfit {w} s {h} {m} {xs} x a b e) f o = λ y k x l q i. absurd (omega arith)
 passed_own k (Effects.check_fits {w} s {h} {m} {xs} {j} x q a b c e z) f o = fewer w h m xs MOST (gone_by_step q) (let g = ap gone_by_step e in let n = gone_check m xs (after_line j) in omega arith) f

@@ -1,7 +1,7 @@
 -- Runs and traces of schedules in parts.
 use Rattle.std.proofs.Common.{◌≡◌, ◌++◌, List, [], ◌∷◌, All, refl, sym, subst, append_assoc, append-nil}
 use Rattle.std.proofs.lemmas.List.Elements.{All-nil, All-head, All-tail, All-cons}
-use Rattle.kc_machine_invariants.specs.kc_machine.Machine.{State, Opening, event_of, run_from, run, opened}
+use Rattle.kc_machine_invariants.specs.kc_machine.Machine.{State, Opening, event_of, run_from, run, opened_state}
 use Rattle.kc_machine_invariants.specs.kc_machine.Schedules.{BeginsWellMade, IsSchedule}
 use Rattle.kc_machine_traces.specs.Traces.{Trace, traced, trace_from, trace, opened_trace, IsHonestFrom, IsHonest, first_store}
 use Rattle.kc_machine_invariants.specs.kc_machine_steps.declared.task.Event.{Event}
@@ -13,7 +13,7 @@ run_from-append m [] ys = refl
 run_from-append m (x ∷ xs) ys = run_from-append (event_of m x) xs ys
 
 pub run-append : (o : Opening) (xs ys : List Event) → run o (xs ++ ys) ≡ run_from (run o xs) ys
-run-append o xs ys = run_from-append (opened o) xs ys
+run-append o xs ys = run_from-append (opened_state o) xs ys
 
 trace_from-append : (t : Trace) (xs ys : List Event) → trace_from t (xs ++ ys) ≡ trace_from (trace_from t xs) ys
 trace_from-append t [] ys = refl

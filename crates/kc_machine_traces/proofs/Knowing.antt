@@ -20,7 +20,7 @@ use Rattle.kc_machine_traces.specs.Phases.{IsDecided, StepKnows, AidKnows}
 use Rattle.kc_machine_traces.proofs.kc_machine_invariants.Phases.{check_unread, install_unread, drop_unread, release_reads, halt_reads, halt_aided_reads, turn_reads, found_decided}
 use Rattle.kc_machine_traces.specs.kc_machine_invariants.Owners.{phase_released}
 use Rattle.kc_machine_traces.proofs.kc_machine_invariants.FitSteps.{succeeded_decided}
-use Rattle.kc_machine_traces.specs.kc_machine_steps.Lines.{after_line, joined}
+use Rattle.kc_machine_traces.specs.kc_machine_steps.Lines.{after_line, line_of_halves}
 use Rattle.kc_machine_traces.specs.kc_machine_steps.Passes.{status, decided_as}
 
 -- a phase by which a pass releases is its status's
@@ -106,7 +106,7 @@ halted_knows w r a b q h = go a q h
 pub aid_knows_own : (k : ℕ) {w w' : World} {s s' : Stand} → Effects.Effect k w s w' s' → Grounds w s → AidKnows w' s.aid → AidKnows w' s'.aid
 aid_knows_own k (Effects.aid_decided {w} s {r} p a b) g f = (at_phase (w.status r.handle.descriptor) r.handle.generation p (g.aided r refl refl).1 a, b)
 aid_knows_own k (Effects.aid_first s) g f = (f, refl)
-aid_knows_own k (Effects.aid_second {w} s {r}) g f = (f.0, ap (λ (x : First). joined x (w.second r.handle.descriptor r.line)) f.1)
+aid_knows_own k (Effects.aid_second {w} s {r}) g f = (f.0, ap (λ (x : First). line_of_halves x (w.second r.handle.descriptor r.line)) f.1)
 aid_knows_own k (Effects.aid_release s a) g f = tt
 aid_knows_own k (Effects.aid_skip s a) g f = tt
 aid_knows_own k (Effects.halt_aid {w} s {r} {a = a} b n e z) g f = halted_knows w r a b e f

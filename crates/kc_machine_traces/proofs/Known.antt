@@ -9,7 +9,7 @@ use Rattle.kc_model.specs.declared.plain_store.Cell.{Cell}
 use Rattle.std.proofs.Math.Seq.{take-append_seam}
 use Rattle.kc_machine_invariants.specs.kc_machine.Machine.{Opening}
 use Rattle.kc_machine_traces.specs.Claims.{HistoriesGrow}
-use Rattle.kc_machine_traces.specs.Histories.{History, Placed, ending, IsKnown, putting, IsFront, Grows}
+use Rattle.kc_machine_traces.specs.Histories.{History, Placed, ending_store, IsKnown, putting, IsFront, Grows}
 use Rattle.kc_machine_traces.specs.Traces.{trace, first_store}
 use Rattle.kc_machine_invariants.specs.kc_machine_steps.declared.task.Event.{Event}
 
@@ -21,7 +21,7 @@ unfoldable pub cell_from : ℕ → Cell → History → Cell
 cell_from l c [] = c
 cell_from l c (x ∷ h) = cell_from l (cell_after (puts_in l x) c) h
 
-pub ending_is : (s : Store) (h : History) (l : ℕ) → ending s h l ≡ cell_from l (s l) h
+pub ending_is : (s : Store) (h : History) (l : ℕ) → ending_store s h l ≡ cell_from l (s l) h
 unfolding cell_from
 ending_is s [] l = refl
 ending_is s (x ∷ h) l = ending_is (after x.entry.footprint s) h l
@@ -88,12 +88,12 @@ unfolding cell_from
 version_rises l c [] = omega arith
 version_rises l c (x ∷ h) = let a = version_up (puts_in l x) c in let b = version_rises l (cell_after (puts_in l x) c) h in omega arith
 
-pub versions_rise : (s : Store) (a b : History) (l : ℕ) → Grows a b → (ending s a l).version ≤ (ending s b l).version
+pub versions_rise : (s : Store) (a b : History) (l : ℕ) → Grows a b → (ending_store s a l).version ≤ (ending_store s b l).version
 versions_rise s a b l g =
     let f = g.1 l in
-    let ea : ending s a l ≡ cell_from l (s l) (putting l a) = ending_is s a l ∙ cell_putting l (s l) a in
-    let eb : ending s b l ≡ cell_from l (cell_from l (s l) (putting l a)) f.0 = ending_is s b l ∙ cell_putting l (s l) b ∙ ap (cell_from l (s l)) f.1 ∙ cell_append l (s l) (putting l a) f.0 in
-    subst (λ (x : Cell). x.version ≤ (ending s b l).version) (sym ea) (subst (λ (x : Cell). (cell_from l (s l) (putting l a)).version ≤ x.version) (sym eb) (version_rises l (cell_from l (s l) (putting l a)) f.0))
+    let ea : ending_store s a l ≡ cell_from l (s l) (putting l a) = ending_is s a l ∙ cell_putting l (s l) a in
+    let eb : ending_store s b l ≡ cell_from l (cell_from l (s l) (putting l a)) f.0 = ending_is s b l ∙ cell_putting l (s l) b ∙ ap (cell_from l (s l)) f.1 ∙ cell_append l (s l) (putting l a) f.0 in
+    subst (λ (x : Cell). x.version ≤ (ending_store s b l).version) (sym ea) (subst (λ (x : Cell). (cell_from l (s l) (putting l a)).version ≤ x.version) (sym eb) (version_rises l (cell_from l (s l) (putting l a)) f.0))
 
 -- ---- as a schedule goes on
 
@@ -104,5 +104,5 @@ module _ (o : Opening) (es more : List Event) (g : HistoriesGrow o (es ++ more))
   pub known_on : (r : Seen) → IsKnown (first_store o) (trace o es).history r → IsKnown (first_store o) (trace o (es ++ more)).history r
   known_on r = known_stays (first_store o) (trace o es).history (trace o (es ++ more)).history r grows_on
 
-  pub versions_on : (l : ℕ) → (ending (first_store o) (trace o es).history l).version ≤ (ending (first_store o) (trace o (es ++ more)).history l).version
+  pub versions_on : (l : ℕ) → (ending_store (first_store o) (trace o es).history l).version ≤ (ending_store (first_store o) (trace o (es ++ more)).history l).version
   versions_on l = versions_rise (first_store o) (trace o es).history (trace o (es ++ more)).history l grows_on

@@ -5,7 +5,7 @@ use Rattle.kc_machine_traces.proofs.kc_machine_invariants.Counted.{one_here}
 use Rattle.kc_machine_traces.proofs.kc_machine_invariants.Held.{Fits, stays}
 use Rattle.kc_machine_traces.proofs.kc_machine_invariants.Sums.{sum_below_part}
 use Rattle.kc_machine_traces.specs.kc_machine_invariants.Effects.{Effect}
-use Rattle.kc_machine_traces.specs.kc_machine_invariants.Holds.{Proper, Has, on, holds_on}
+use Rattle.kc_machine_traces.specs.kc_machine_invariants.Holds.{Proper, HasHold, on, holds_on}
 use Rattle.kc_machine_traces.specs.kc_machine_invariants.Stands.{Stand}
 use Rattle.kc_machine_traces.specs.Lines.{IsLastLife, IsInstalledLine}
 use Rattle.kc_machine_traces.specs.Phases.{IsDecided}
@@ -14,7 +14,7 @@ use Rattle.kc_machine_traces.proofs.kc_machine_invariants.Phases.{decided_moves}
 use Rattle.kc_machine_traces.proofs.kc_machine_invariants.Statuses.{status_moves}
 use Rattle.kc_machine_traces.specs.kc_machine_invariants.Owners.{Follows}
 use Rattle.kc_machine_traces.specs.kc_machine_invariants.Started.{line_of_words}
-use Rattle.kc_machine_traces.specs.kc_machine_steps.Lines.{joined, is_installed}
+use Rattle.kc_machine_traces.specs.kc_machine_steps.Lines.{line_of_halves, is_installed}
 use Rattle.kc_machine_traces.proofs.Copies.{SameWords, Filling, owner_fills, first_fills, second_fills}
 use Rattle.kc_machine_traces.specs.kc_machine_words.declared.words.First.{First}
 use Rattle.kc_machine_traces.specs.kc_machine_words.declared.words.Handle.{Handle}
@@ -29,7 +29,7 @@ pub record SameLife (w v : World) (d : ℕ) : Type 0 where
   pub words : SameWords w v d
 
 pub same_line : (w v : World) (d k : ℕ) → SameWords w v d → line_of_words w d k ≡ line_of_words v d k
-same_line w v d k s = ap (λ (f : ℕ → First). joined (f k) (w.second d k)) s.first ∙ ap (λ (f : ℕ → Second). joined (v.first d k) (f k)) s.second
+same_line w v d k s = ap (λ (f : ℕ → First). line_of_halves (f k) (w.second d k)) s.first ∙ ap (λ (f : ℕ → Second). line_of_halves (v.first d k) (f k)) s.second
 
 pub line_stays : (w v : World) (d k : ℕ) → SameWords w v d → IsInstalledLine w d k → IsInstalledLine v d k
 line_stays w v d k s h =
@@ -37,7 +37,7 @@ line_stays w v d k s h =
     (omega arith, h.1, subst (λ x. is_installed (v.owner d).mode x ≡ true) (same_line w v d k s) (subst (λ (a : Owner). is_installed a.mode (line_of_words w d k) ≡ true) s.owner h.2))
 
 -- what is held is counted
-pub held_counts : (w : World) (n m : ℕ) (at : ℕ → Stand) → Lives n m w at → (j : ℕ) → j < n → (d g : ℕ) → Has (at j) (Proper d g) → 1 ≤ (w.control d).holds
+pub held_counts : (w : World) (n m : ℕ) (at : ℕ → Stand) → Lives n m w at → (j : ℕ) → j < n → (d g : ℕ) → HasHold (at j) (Proper d g) → 1 ≤ (w.control d).holds
 held_counts w n m at p j l d g h =
     let c = p.pool.counted d in
     let t = sum_below_part (λ i. holds_on d (at i)) n j l in

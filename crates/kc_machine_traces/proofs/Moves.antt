@@ -19,7 +19,7 @@ use Rattle.kc_machine_traces.specs.kc_machine_invariants.Changes.{with_word}
 use Rattle.kc_machine_traces.specs.kc_machine_invariants.Effects
 use Rattle.kc_machine_traces.specs.kc_machine_invariants.Stands.{Stand, At, Over, Aids, Swaps, idle}
 use Rattle.kc_machine_traces.proofs.Owing.{released}
-use Rattle.kc_machine_traces.specs.kc_machine_steps.Lines.{after_line, one_more, word_of, is_installed}
+use Rattle.kc_machine_traces.specs.kc_machine_steps.Lines.{after_line, one_more, reference_word, is_installed}
 use Rattle.kc_machine_traces.specs.kc_machine_steps.Swaps.{word_after}
 use Rattle.kc_machine_traces.specs.kc_machine_steps.declared.swap.SwapStep.TheVariants as swap
 use Rattle.kc_machine_traces.specs.kc_machine_steps.Passes.{from_install}
@@ -36,7 +36,7 @@ pub record Installs (w w' : World) (s s' : Stand) (l g d i : ℕ) : Type 0 where
   pub here : l ≡ line.seen.loc.0
   pub put_in : is_installed mode line ≡ true
   pub low : step < MOST
-  pub refers : word_of handle step ≡ Ref g d i
+  pub refers : reference_word handle step ≡ Ref g d i
   pub next : PassStep
   pub goes : next ≡ from_install mode lines (after_line step)
   pub after : s'.pass ≡ Over handle mode lines (At next)
@@ -44,11 +44,11 @@ pub record Installs (w w' : World) (s s' : Stand) (l g d i : ℕ) : Type 0 where
 
 pub word_before : (k : ℕ) {w w' : World} {s s' : Stand} → Effects.Effect k w s w' s' → (l g d i : ℕ) → w'.word l ≡ Ref g d i → (w.word l ≡ Ref g d i) ⊎ Installs w w' s s' l g d i
 word_before k (Effects.install {w} s {h = h} {m} {xs} {j} x q a b e z put_in low) l g d i =
-    put_cases (λ v. v ≡ Ref g d i → (w.word l ≡ Ref g d i) ⊎ Installs w (with_word w x.seen.loc.0 (word_of h j)) (Effects.passes s h m xs (Install j)) (Effects.passes s h m xs q) l g d i) w.word x.seen.loc.0 (word_of h j) l
+    put_cases (λ v. v ≡ Ref g d i → (w.word l ≡ Ref g d i) ⊎ Installs w (with_word w x.seen.loc.0 (reference_word h j)) (Effects.passes s h m xs (Install j)) (Effects.passes s h m xs q) l g d i) w.word x.seen.loc.0 (reference_word h j) l
     (λ here y. inr (record { handle = h; mode = m; lines = xs; step = j; line = x; over = refl; is = a; here = here; put_in = put_in; low = low; refers = y; next = q; goes = e; after = refl; same = refl }))
     (λ ne y. inl y)
 word_before k (Effects.release {w} s {h} {m} {xs} {j} {p} x t a b e z) l g d i =
-    put_cases (λ v. v ≡ Ref g d i → (w.word l ≡ Ref g d i) ⊎ Installs w (with_word w x.seen.loc.0 (released x p)) (Effects.passes s h m xs (Release j p)) (Effects.turns s h m xs t) l g d i) w.word x.seen.loc.0 (released x p) l
+    put_cases (λ v. v ≡ Ref g d i → (w.word l ≡ Ref g d i) ⊎ Installs w (with_word w x.seen.loc.0 (released x p)) (Effects.passes s h m xs (Release j p)) (Effects.stand_turns s h m xs t) l g d i) w.word x.seen.loc.0 (released x p) l
     (λ here y. absurd (cc))
     (λ ne y. inl y)
 word_before k (Effects.aid_release {w} s {r} {c} {p} {x} a) l g d i =
@@ -63,12 +63,12 @@ word_before k e l g d i = λ y. inl y
 
 -- the seat releases line i of life (d, g): in its pass, or as the one line of an aid
 pub data Releases (w w' : World) (s : Stand) (g d i : ℕ) : Type 0 where
-  in_pass : (h : Handle) (m : Mode) (xs : List Line) (j : ℕ) (p : Phase) → s.pass ≡ Over h m xs (At (Release j p)) → word_of h j ≡ Ref g d i → w'.status ≡ w.status → Releases w w' s g d i
-  in_aid : (r : Reference) (c : Aided) (p : Phase) (x : Line) → s.aid ≡ Aids r c (aiding.Goes (aid.Release p x)) → word_of r.handle r.line ≡ Ref g d i → w'.status ≡ w.status → Releases w w' s g d i
+  in_pass : (h : Handle) (m : Mode) (xs : List Line) (j : ℕ) (p : Phase) → s.pass ≡ Over h m xs (At (Release j p)) → reference_word h j ≡ Ref g d i → w'.status ≡ w.status → Releases w w' s g d i
+  in_aid : (r : Reference) (c : Aided) (p : Phase) (x : Line) → s.aid ≡ Aids r c (aiding.Goes (aid.Release p x)) → reference_word r.handle r.line ≡ Ref g d i → w'.status ≡ w.status → Releases w w' s g d i
 
 pub word_later : (k : ℕ) {w w' : World} {s s' : Stand} → Effects.Effect k w s w' s' → (l g d i : ℕ) → w.word l ≡ Ref g d i → (w'.word l ≡ Ref g d i) ⊎ Releases w w' s g d i
 word_later k (Effects.install {w} s {h = h} {m} {xs} {j} x q a b e z put_in low) l g d i y =
-    put_cases (λ v. (v ≡ Ref g d i) ⊎ Releases w (with_word w x.seen.loc.0 (word_of h j)) (Effects.passes s h m xs (Install j)) g d i) w.word x.seen.loc.0 (word_of h j) l
+    put_cases (λ v. (v ≡ Ref g d i) ⊎ Releases w (with_word w x.seen.loc.0 (reference_word h j)) (Effects.passes s h m xs (Install j)) g d i) w.word x.seen.loc.0 (reference_word h j) l
     (λ here. let plain = sym b ∙ ap w.word (sym here) ∙ y in absurd (cc))
     (λ ne. inl y)
 word_later k (Effects.release {w} s {h = h} {m} {xs} {j} {p} x t a b e z) l g d i y =

@@ -19,7 +19,7 @@ use Rattle.kc_machine_invariants.specs.kc_machine_steps.declared.task.Event.{Eve
 use Rattle.kc_machine_invariants.specs.kc_machine_steps.declared.task.Event.TheVariants.{Begin, Step, Halt}
 use Rattle.kc_machine_invariants.specs.kc_machine.Works as work
 use Rattle.kc_machine_invariants.specs.kc_machine.Machine.{State, Opening, event_of, seat_of, run}
-use Rattle.kc_machine_invariants.specs.kc_machine.Seats.{answer_of, answer_by, after, is_idle, begun, begun_idle, working, hanging, halted, halted_by, ended}
+use Rattle.kc_machine_invariants.specs.kc_machine.Seats.{seat_answered, answer_by, seat_after, is_idle, begun, begun_idle, working, hanging, halted, halted_by, seat_halted}
 use Rattle.kc_machine_invariants.specs.kc_machine.declared.seat.Seat.{Seat}
 use Rattle.kc_machine_traces.specs.Histories.{Placed}
 use Rattle.kc_machine_traces.specs.Traces.{trace}
@@ -36,10 +36,10 @@ one_above n = go (nat_lt n 18446744073709551615)
     go true = omega arith
     go false = omega arith
 
-answer_calls : (s : Seat) (f : Found) → s.calls ≤ (answer_of s f).calls
+answer_calls : (s : Seat) (f : Found) → s.calls ≤ (seat_answered s f).calls
 answer_calls s f = go s.work
   where
-    on : (x : Work) (n : Onward) → s.calls ≤ (after (record s { work = x }) n).calls
+    on : (x : Work) (n : Onward) → s.calls ≤ (seat_after (record s { work = x }) n).calls
     on x onward.Goes = omega arith
     on x onward.Takes = one_above s.calls
     on x onward.Unblocks = omega arith
@@ -74,11 +74,11 @@ begun_calls s t = go (is_idle s.work)
 halted_calls : (s : Seat) → s.calls ≤ (halted s).calls
 halted_calls s = go s.work
   where
-    ends_or : (x : Work) (b : Bool) → s.calls ≤ (if b then ended s else record s { work = x }).calls
+    ends_or : (x : Work) (b : Bool) → s.calls ≤ (if b then seat_halted s else record s { work = x }).calls
     ends_or x true = omega arith
     ends_or x false = omega arith
 
-    ends_or_stays : (b : Bool) → s.calls ≤ (if b then ended s else s).calls
+    ends_or_stays : (b : Bool) → s.calls ≤ (if b then seat_halted s else s).calls
     ends_or_stays true = omega arith
     ends_or_stays false = omega arith
 

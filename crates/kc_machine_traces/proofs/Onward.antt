@@ -37,10 +37,10 @@ use Rattle.kc_machine_invariants.specs.kc_machine_steps.Passes.{pass_next}
 use Rattle.kc_machine_invariants.specs.kc_machine.declared.hang.HangStep.TheVariants as hang
 use Rattle.kc_machine_invariants.specs.kc_machine.declared.hang.HangNext.{HangNext}
 use Rattle.kc_machine_invariants.specs.kc_machine.declared.hang.HangNext.TheVariants as hanging
-use Rattle.kc_machine_invariants.specs.kc_machine.Hangs.{hang_next, hangs_on, onward_of, look_of, look_goes_on, looked, look_or_end, clear_or_changed, unblocks_or_tells, leave_after, next_read}
+use Rattle.kc_machine_invariants.specs.kc_machine.Hangs.{hang_next, hangs_on, onward_of, hang_look_next, look_goes_on, version_looked, look_or_end, clear_or_changed, unblocks_or_tells, leave_after, next_read}
 use Rattle.kc_machine_invariants.specs.kc_machine.Waits.{Hang, Leave}
-use Rattle.kc_machine_invariants.specs.kc_machine_steps.Swaps.{may_swap, owed_next, swap_next_at, swaps_on, ends_at_once}
-use Rattle.kc_machine_invariants.specs.kc_machine_steps.Swaps.{onward_of as onward_of_swap}
+use Rattle.kc_machine_invariants.specs.kc_machine_steps.Swaps.{may_swap, swap_owed_next, swap_next_at, swaps_on, ends_at_once}
+use Rattle.kc_machine_invariants.specs.kc_machine_steps.Swaps.{onward_of_swap}
 use Rattle.kc_machine_invariants.specs.kc_machine_steps.declared.swap.Swap.{Swap}
 use Rattle.kc_machine_invariants.specs.kc_machine_steps.declared.swap.SwapNext.{SwapNext}
 use Rattle.kc_machine_invariants.specs.kc_machine_steps.declared.swap.SwapNext.TheVariants as swapping
@@ -53,7 +53,7 @@ use Rattle.kc_model.specs.declared.word.Word.TheVariants.{Plain, Ref}
 use Rattle.kc_machine_invariants.specs.kc_machine.Works.{Work}
 use Rattle.kc_machine_invariants.specs.kc_machine.Works as work
 use Rattle.kc_machine_invariants.specs.kc_machine.Machine.{World}
-use Rattle.kc_machine_invariants.specs.kc_machine.Seats.{answer_of, answer_by, after, is_idle, begun_idle, working, hanging, halted, halted_by, ended}
+use Rattle.kc_machine_invariants.specs.kc_machine.Seats.{seat_answered, answer_by, seat_after, is_idle, begun_idle, working, hanging, halted, halted_by, seat_halted}
 use Rattle.kc_machine_invariants.specs.kc_machine.declared.seat.Seat.{Seat}
 use Rattle.kc_machine_traces.specs.Histories.{History}
 use Rattle.kc_machine_traces.specs.Traces.{is_success}
@@ -159,7 +159,7 @@ module _ (v : World) (k : ℕ) (u : Task) (s : Seat) (a b : History) where
   NextLeft (next.Takes y) = StageNow (one_more s.calls) y
   NextLeft (next.Tells t) = GainsAsTold k u (Some t) a b
 
-  after_next : (c : Commit) (n : Next) → NextLeft n → IsIntentOf u c.intent → SeatLeft v k u (after (record s { work = work.Commit (gone_on c n) }) (onward_by n)) a b
+  after_next : (c : Commit) (n : Next) → NextLeft n → IsIntentOf u c.intent → SeatLeft v k u (seat_after (record s { work = work.Commit (gone_on c n) }) (onward_by n)) a b
   after_next c (next.Goes y) h i = (h, i)
   after_next c (next.Takes y) h i = (h, i)
   after_next c (next.Tells t) h i = h
@@ -213,7 +213,7 @@ module _ (v : World) (k : ℕ) (u : Task) (s : Seat) (a b : History) where
   stage_left c (stage.Take d g) f e q = take_left d g f q
   stage_left c (stage.Own h step) f e q = own_left c h step f e q
 
-  look_left : (x : _) (t : Bool) (n : LookNext) → b ≡ a → SeatLeft v k u (after (record s { work = work.Look x }) (told_by t n)) a b
+  look_left : (x : _) (t : Bool) (n : LookNext) → b ≡ a → SeatLeft v k u (seat_after (record s { work = work.Look x }) (told_by t n)) a b
   look_left x true n q = q
   look_left x false (looking.Goes step) q = q
   look_left x false (looking.Saw seen) q = q
@@ -222,7 +222,7 @@ module _ (v : World) (k : ℕ) (u : Task) (s : Seat) (a b : History) where
   HangLeft (hanging.Goes step) = b ≡ a
   HangLeft (hanging.Tells t) = GainsAsTold k u (Some t) a b
 
-  after_hang : (h : Hang) (n : HangNext) → HangLeft n → SeatLeft v k u (after (record s { work = work.Hang (hangs_on h n) }) (onward_of n)) a b
+  after_hang : (h : Hang) (n : HangNext) → HangLeft n → SeatLeft v k u (seat_after (record s { work = work.Hang (hangs_on h n) }) (onward_of n)) a b
   after_hang h (hanging.Goes step) q = q
   after_hang h (hanging.Tells t) q = q
 
@@ -234,7 +234,7 @@ module _ (v : World) (k : ℕ) (u : Task) (s : Seat) (a b : History) where
       ends i None = q
       ends i (Some x) = q
 
-      at : (x : Seen) (seen : Seen) → HangLeft (looked reads j x.version seen.version)
+      at : (x : Seen) (seen : Seen) → HangLeft (version_looked reads j x.version seen.version)
       at x seen = on (seen.version == x.version)
         where
           on : (z : Bool) → HangLeft (if z then look_or_end (after_line j) (slice_get reads (after_line j)) else hanging.Goes (hang.Clear 0 j))
@@ -245,7 +245,7 @@ module _ (v : World) (k : ℕ) (u : Task) (s : Seat) (a b : History) where
       next_of x (looking.Goes y) = q
       next_of x (looking.Saw seen) = at x seen
 
-      go : (o : Option Seen) → HangLeft (look_of reads j step f o)
+      go : (o : Option Seen) → HangLeft (hang_look_next reads j step f o)
       go None = q
       go (Some x) = next_of x (look_next x.loc step f)
   hang_left reads (hang.Clear j n) f q = go (after_line j) (slice_get reads (after_line j))
@@ -254,7 +254,7 @@ module _ (v : World) (k : ℕ) (u : Task) (s : Seat) (a b : History) where
       go i None = q
       go i (Some x) = q
 
-  leave_left : (x : Leave) (o : Option Seen) → b ≡ a → SeatLeft v k u (after (record s { work = work.Leave x }) (unblocks_or_tells o)) a b
+  leave_left : (x : Leave) (o : Option Seen) → b ≡ a → SeatLeft v k u (seat_after (record s { work = work.Leave x }) (unblocks_or_tells o)) a b
   leave_left x None q = q
   leave_left x (Some y) q = q
 
@@ -263,9 +263,9 @@ module _ (v : World) (k : ℕ) (u : Task) (s : Seat) (a b : History) where
   Quiet f x = takes (swap_of x) (swap_of (answer_by s f x).work) ≡ false
 
   abbrev SwapNextLeft : Swap → SwapNext → Type 0
-  SwapNextLeft x n = SeatLeft v k u (after (record s { work = work.Swap (swaps_on x n) }) (onward_of_swap n)) a b
+  SwapNextLeft x n = SeatLeft v k u (seat_after (record s { work = work.Swap (swaps_on x n) }) (onward_of_swap n)) a b
 
-  owed_left : (x : Swap) (owed : ℕ) → GainsTheCall k s.calls u a b → SwapNextLeft x (owed_next s.calls owed)
+  owed_left : (x : Swap) (owed : ℕ) → GainsTheCall k s.calls u a b → SwapNextLeft x (swap_owed_next s.calls owed)
   owed_left x owed q = go (owed == 0)
     where
       go : (z : Bool) → SwapNextLeft x (if z then swapping.Tells (told.Succeeded s.calls) else swapping.Goes (swap.Signal owed))
@@ -281,7 +281,7 @@ module _ (v : World) (k : ℕ) (u : Task) (s : Seat) (a b : History) where
       Next : Bool → Bool → SwapNext
       Next x m = if x then (if m then swapping.Takes swap.Wake else swapping.Tells (told.Crossed 0)) else swapping.Tells (told.Failed 0)
 
-      go : (x m : Bool) → takes (Swaps r value swap.Exchange) (swap_of (after (record s { work = work.Swap (swaps_on (Stepping r value swap.Exchange) (Next x m)) }) (onward_of_swap (Next x m))).work) ≡ false
+      go : (x m : Bool) → takes (Swaps r value swap.Exchange) (swap_of (seat_after (record s { work = work.Swap (swaps_on (Stepping r value swap.Exchange) (Next x m)) }) (onward_of_swap (Next x m))).work) ≡ false
           → (b ≡ a) × (u ≡ task.Swap r value) → SwapNextLeft (Stepping r value swap.Exchange) (Next x m)
       go true true e q = absurd (cc)
       go true false e q = q.0
@@ -304,7 +304,7 @@ module _ (v : World) (k : ℕ) (u : Task) (s : Seat) (a b : History) where
   swap_left r value swap.Wake (found.Second c) e q = q
   swap_left r value (swap.Signal owed) f e q = owed_left _ (bit_and owed (owed - 1)) q
 
-  pub answer_left : (f : Found) → Knows v s.work → Quiet f s.work → SeatLeft v k u s a b → SeatLeft v k u (answer_of s f) a b
+  pub answer_left : (f : Found) → Knows v s.work → Quiet f s.work → SeatLeft v k u s a b → SeatLeft v k u (seat_answered s f) a b
   answer_left f = go s.work refl
     where
       go : (x : Work) → s.work ≡ x → Knows v x → Quiet f x → Left v k s.calls u s.told x a b → SeatLeft v k u (answer_by s f x) a b
@@ -317,7 +317,7 @@ module _ (v : World) (k : ℕ) (u : Task) (s : Seat) (a b : History) where
 
   -- ---- a halt
 
-  halt_stage : (c : Commit) (x : Stage) → StageNow s.calls x → IsIntentOf u c.intent → SeatLeft v k u (if unowned x then ended s else record s { work = work.Commit (halted_at c x) }) a b
+  halt_stage : (c : Commit) (x : Stage) → StageNow s.calls x → IsIntentOf u c.intent → SeatLeft v k u (if unowned x then seat_halted s else record s { work = work.Commit (halted_at c x) }) a b
   halt_stage c (stage.Scan d worn) q i = q
   halt_stage c (stage.Take d g) q i = q
   halt_stage c (stage.Own h step) q i = (subst (λ z. IfDone (not z && succeeded v h) k s.calls u a b) (sym (halted_same step)) q, i)
@@ -325,11 +325,11 @@ module _ (v : World) (k : ℕ) (u : Task) (s : Seat) (a b : History) where
   pub halted_left : SeatLeft v k u s a b → SeatLeft v k u (halted s) a b
   halted_left = go s.work refl
     where
-      look_or : (x : _) (z : Bool) → b ≡ a → SeatLeft v k u (if z then ended s else record s { work = work.Look x }) a b
+      look_or : (x : _) (z : Bool) → b ≡ a → SeatLeft v k u (if z then seat_halted s else record s { work = work.Look x }) a b
       look_or x true q = q
       look_or x false q = q
 
-      swap_or : (x : Swap) (step : SwapStep) → s.work ≡ work.Swap (Stepping x.seen x.after step) → SwapLeft k s.calls u x.seen x.after step a b → SeatLeft v k u (if ends_at_once step then ended s else s) a b
+      swap_or : (x : Swap) (step : SwapStep) → s.work ≡ work.Swap (Stepping x.seen x.after step) → SwapLeft k s.calls u x.seen x.after step a b → SeatLeft v k u (if ends_at_once step then seat_halted s else s) a b
       swap_or x swap.Exchange z q = q.0
       swap_or x swap.Wake z q = subst (λ y. Left v k s.calls u s.told y a b) (sym z) q
       swap_or x (swap.Signal owed) z q = subst (λ y. Left v k s.calls u s.told y a b) (sym z) q

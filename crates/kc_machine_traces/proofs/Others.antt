@@ -4,8 +4,8 @@ use Rattle.std.specs.Prelude.{nat_lt}
 use Rattle.std.proofs.lemmas.Bool.Decides.{nat_tests}
 use Rattle.std.proofs.lemmas.List.Elements.{All-head, All-tail}
 use Rattle.kc_machine_invariants.proofs.kc_machine.Functions.{put_here, put_else}
-use Rattle.kc_machine_invariants.specs.kc_machine.Machine.{World, State, Opening, put, with_seat, possible, found_at, touched, stepped, happened, event_of, seat_of, run_from, run, opened, pool_size}
-use Rattle.kc_machine_invariants.specs.kc_machine.Seats.{access_of, answer_of, begun, halted}
+use Rattle.kc_machine_invariants.specs.kc_machine.Machine.{World, State, Opening, put_at_index, with_seat, possible, found_at, touched, stepped, happened, event_of, seat_of, run_from, run, opened_state, pool_size}
+use Rattle.kc_machine_invariants.specs.kc_machine.Seats.{access_of, seat_answered, begun, halted}
 use Rattle.kc_machine_invariants.specs.kc_machine.Words.{phase_is}
 use Rattle.kc_machine_invariants.specs.kc_machine.declared.seat.Seat.{Seat}
 use Rattle.kc_machine_traces.specs.Traces.{Moment, Trace, is_success, history_after, traced, trace_from, trace, now}
@@ -27,7 +27,7 @@ Shaped m n = (n.locations ≡ m.locations) × (n.descriptors ≡ m.descriptors) 
 event_shape : (m : State) (e : Event) → Shaped m (event_of m e)
 event_shape m e = go e (nat_lt (seat_of e) m.callers)
   where
-    step : (k : ℕ) (b : Bool) → Shaped m (if b then record m { world = touched m.world (access_of (m.seats k)); seats = put m.seats k (answer_of (m.seats k) (found_at m.world (access_of (m.seats k)))) } else m)
+    step : (k : ℕ) (b : Bool) → Shaped m (if b then record m { world = touched m.world (access_of (m.seats k)); seats = put_at_index m.seats k (seat_answered (m.seats k) (found_at m.world (access_of (m.seats k)))) } else m)
     step k true = (refl, refl, refl)
     step k false = (refl, refl, refl)
 
@@ -45,14 +45,14 @@ shape_from m [] = (refl, refl, refl)
 shape_from m (e ∷ es) = let a = event_shape m e in let b = shape_from (event_of m e) es in (b.0 ∙ a.0, b.1 ∙ a.1, b.2 ∙ a.2)
 
 pub run_shape : (o : Opening) (es : List Event) → ((run o es).locations ≡ o.locations) × ((run o es).descriptors ≡ pool_size o.callers) × ((run o es).callers ≡ o.callers)
-run_shape o es = shape_from (opened o) es
+run_shape o es = shape_from (opened_state o) es
 
 -- ---- events of others leave a seat
 
 pub event_else : (m : State) (e : Event) (k : ℕ) → seat_of e ≢ k → (event_of m e).seats k ≡ m.seats k
 event_else m e k ne = go e ne (nat_lt (seat_of e) m.callers)
   where
-    step : (j : ℕ) → j ≢ k → (b : Bool) → ◌≡◌ {A = Seat} ((if b then record m { world = touched m.world (access_of (m.seats j)); seats = put m.seats j (answer_of (m.seats j) (found_at m.world (access_of (m.seats j)))) } else m).seats k) (m.seats k)
+    step : (j : ℕ) → j ≢ k → (b : Bool) → ◌≡◌ {A = Seat} ((if b then record m { world = touched m.world (access_of (m.seats j)); seats = put_at_index m.seats j (seat_answered (m.seats j) (found_at m.world (access_of (m.seats j)))) } else m).seats k) (m.seats k)
     step j ne true = put_else m.seats j _ k (λ e. ne (sym e))
     step j ne false = refl
 
@@ -89,17 +89,17 @@ event_out m e q = rw q refl
 
 module _ (o : Opening) (es : List Event) (k : ℕ) where
   step_is : k < o.callers → possible (run o es) (access_of ((run o es).seats k)) ≡ true
-      → run o (es ++ Step k ∷ []) ≡ record (run o es) { world = touched (run o es).world (access_of ((run o es).seats k)); seats = put (run o es).seats k (answer_of ((run o es).seats k) (found_at (run o es).world (access_of ((run o es).seats k)))) }
+      → run o (es ++ Step k ∷ []) ≡ record (run o es) { world = touched (run o es).world (access_of ((run o es).seats k)); seats = put_at_index (run o es).seats k (seat_answered ((run o es).seats k) (found_at (run o es).world (access_of ((run o es).seats k)))) }
   step_is l p =
       let m = run o es in
-      let d : stepped m k ≡ record m { world = touched m.world (access_of (m.seats k)); seats = put m.seats k (answer_of (m.seats k) (found_at m.world (access_of (m.seats k)))) } = rw p refl in
+      let d : stepped m k ≡ record m { world = touched m.world (access_of (m.seats k)); seats = put_at_index m.seats k (seat_answered (m.seats k) (found_at m.world (access_of (m.seats k)))) } = rw p refl in
       run-append o es (Step k ∷ []) ∙ event_in m (Step k) (let c = (run_shape o es).2 in omega arith) ∙ d
 
   pub step_world : k < o.callers → possible (run o es) (access_of ((run o es).seats k)) ≡ true → (run o (es ++ Step k ∷ [])).world ≡ touched (run o es).world (access_of ((run o es).seats k))
   step_world l p = ap (λ (x : State). x.world) (step_is l p)
 
   pub step_seat : k < o.callers → possible (run o es) (access_of ((run o es).seats k)) ≡ true
-      → (run o (es ++ Step k ∷ [])).seats k ≡ answer_of ((run o es).seats k) (found_at (run o es).world (access_of ((run o es).seats k)))
+      → (run o (es ++ Step k ∷ [])).seats k ≡ seat_answered ((run o es).seats k) (found_at (run o es).world (access_of ((run o es).seats k)))
   step_seat l p = ap (λ (x : State). x.seats k) (step_is l p) ∙ put_here (run o es).seats k _
 
   pub step_idle : possible (run o es) (access_of ((run o es).seats k)) ≡ false → run o (es ++ Step k ∷ []) ≡ run o es

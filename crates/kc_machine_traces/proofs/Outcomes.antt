@@ -32,13 +32,13 @@ use Rattle.kc_machine_invariants.specs.kc_machine.Works.{Work}
 use Rattle.kc_machine_invariants.specs.kc_machine_commits.Commits.{stage_access}
 use Rattle.kc_machine_invariants.specs.kc_machine.Works as work
 use Rattle.kc_machine_invariants.proofs.kc_machine.Functions.{put_here}
-use Rattle.kc_machine_invariants.specs.kc_machine.Machine.{World, State, Opening, put, found_at, touched, possible, happened, stepped, event_of, seat_of, run}
-use Rattle.kc_machine_invariants.specs.kc_machine.Seats.{access_of, answer_of, begun, begun_idle, halted, is_idle, work_access}
+use Rattle.kc_machine_invariants.specs.kc_machine.Machine.{World, State, Opening, put_at_index, found_at, touched, possible, happened, stepped, event_of, seat_of, run}
+use Rattle.kc_machine_invariants.specs.kc_machine.Seats.{access_of, seat_answered, begun, begun_idle, halted, is_idle, work_access}
 use Rattle.kc_machine_invariants.specs.kc_machine.declared.seat.Seat.{Seat}
 use Rattle.kc_machine_traces.specs.Histories.{History, Placed, inserted, footprint_of}
 use Rattle.kc_machine_traces.specs.Traces.{is_success, decides, entry_for, history_after, place_or, trace, now}
 use Rattle.kc_machine_invariants.specs.Holds.{Proper, own_hold}
-use Rattle.kc_machine_invariants.specs.Stands.{Stand, Own, NoOwn, Waits, Passing, NoPass, Over, stand, works, resting, commits, owns, aids, hangs}
+use Rattle.kc_machine_invariants.specs.Stands.{Stand, Own, NoOwn, Waits, Passing, NoPass, Over, stand, works, resting, stand_commits, owns, stand_aids, stand_hangs}
 use Rattle.kc_machine_invariants.proofs.LifeLaws.{owners_differ, phase_known}
 use Rattle.kc_machine_invariants.specs.Owners.{fills, is_filling, phase_read}
 use Rattle.kc_machine_traces.proofs.Answers.{head_of}
@@ -54,30 +54,30 @@ use Rattle.kc_machine_invariants.specs.kc_machine_steps.declared.swap.SwapStep.T
 use Rattle.kc_machine_traces.proofs.Onward.{SwapLeft, IsIntentOf, IfDone, succeeded, StageLeft, StageKnows, Left, SeatLeft, Knows, answer_left, halted_left, begun_left, ended_left}
 use Rattle.kc_machine_traces.proofs.Others.{run_shape, event_in, event_else, history_kept}
 use Rattle.kc_machine_traces.proofs.Statuses.{Moves, Starts, Decides, IsOver, step_moves}
-use Rattle.kc_machine_traces.specs.Entries.{by, own_intent}
+use Rattle.kc_machine_traces.specs.Entries.{placed_by, own_intent}
 use Rattle.kc_machine_traces.specs.Moments.{BeginsNothing}
 use Rattle.kc_machine_traces.specs.Outcomes.{IsEntryOf, GainsTheCall, GainsAsTold}
 use Rattle.kc_machine_traces.specs.Parts.{IsNoStep}
 
 -- ---- one entry more
 
-by_own : (k : ℕ) (x : Placed) (h : History) → x.entry.caller ≡ k → by k (x ∷ h) ≡ x ∷ by k h
-by_own k x h e = ap (λ b. cond b (x ∷ by k h) (by k h)) (eq-eqb x.entry.caller k e)
+by_own : (k : ℕ) (x : Placed) (h : History) → x.entry.caller ≡ k → placed_by k (x ∷ h) ≡ x ∷ placed_by k h
+by_own k x h e = ap (λ b. cond b (x ∷ placed_by k h) (placed_by k h)) (eq-eqb x.entry.caller k e)
 
 -- behind one entry more
-behind : (k n : ℕ) (u : Task) (y : Placed) (h g : History) → GainsTheCall k n u (by k h) (by k g) → GainsTheCall k n u (by k (y ∷ h)) (by k (y ∷ g))
+behind : (k n : ℕ) (u : Task) (y : Placed) (h g : History) → GainsTheCall k n u (placed_by k h) (placed_by k g) → GainsTheCall k n u (placed_by k (y ∷ h)) (placed_by k (y ∷ g))
 behind k n u y h g r = go (y.entry.caller == k)
   where
-    go : (b : Bool) → GainsTheCall k n u (cond b (y ∷ by k h) (by k h)) (cond b (y ∷ by k g) (by k g))
+    go : (b : Bool) → GainsTheCall k n u (cond b (y ∷ placed_by k h) (placed_by k h)) (cond b (y ∷ placed_by k g) (placed_by k g))
     go true = record { entry = r.entry; is = r.is; front = y ∷ r.front; back = r.back; before = ap (λ z. y ∷ z) r.before; after = ap (λ z. y ∷ z) r.after }
     go false = r
 
-gains : (k n : ℕ) (u : Task) (x : Placed) (h : History) → x.entry.caller ≡ k → IsEntryOf k n u x → GainsTheCall k n u (by k h) (by k (inserted x h))
+gains : (k n : ℕ) (u : Task) (x : Placed) (h : History) → x.entry.caller ≡ k → IsEntryOf k n u x → GainsTheCall k n u (placed_by k h) (placed_by k (inserted x h))
 gains k n u x [] e q = record { entry = x; is = q; front = []; back = []; before = refl; after = by_own k x [] e }
 gains k n u x (y ∷ h) e q = go (gains k n u x h e q) (nat_lt x.place y.place)
   where
-    go : GainsTheCall k n u (by k h) (by k (inserted x h)) → (b : Bool) → GainsTheCall k n u (by k (y ∷ h)) (by k (if b then x ∷ y ∷ h else y ∷ inserted x h))
-    go r true = record { entry = x; is = q; front = []; back = by k (y ∷ h); before = refl; after = by_own k x (y ∷ h) e }
+    go : GainsTheCall k n u (placed_by k h) (placed_by k (inserted x h)) → (b : Bool) → GainsTheCall k n u (placed_by k (y ∷ h)) (placed_by k (if b then x ∷ y ∷ h else y ∷ inserted x h))
+    go r true = record { entry = x; is = q; front = []; back = placed_by k (y ∷ h); before = refl; after = by_own k x (y ∷ h) e }
     go r false = behind k n u y h (inserted x h) r
 
 -- the entry of an intent
@@ -92,7 +92,7 @@ entry_is k n (task.Swap r after) x i c q y e z h = absurd h
 
 -- ---- what is owned
 
-aid_owned : (t : Stand) (h : Handle) (i : Intent) (j : ℕ) (r : Reference) (c : Aided) (a : AidStep) → (aids (record t { own = Waits h i j }) r c a).own ≡ Waits h i j
+aid_owned : (t : Stand) (h : Handle) (i : Intent) (j : ℕ) (r : Reference) (c : Aided) (a : AidStep) → (stand_aids (record t { own = Waits h i j }) r c a).own ≡ Waits h i j
 aid_owned t h i j r c aid.Hold = refl
 aid_owned t h i j r c aid.Status = refl
 aid_owned t h i j r c (aid.First p) = refl
@@ -120,7 +120,7 @@ owned t i c h (own.Wake j owed) = (refl, refl, refl)
 owned t i c h (own.Signal owed) = (refl, refl, refl)
 owned t i c h (own.Drop p) = (refl, refl, refl)
 
-hang_unowned : (s : Seat) (reads : List Seen) (step : HangStep) → (hangs (resting s) reads step).own ≡ NoOwn
+hang_unowned : (s : Seat) (reads : List Seen) (step : HangStep) → (stand_hangs (resting s) reads step).own ≡ NoOwn
 hang_unowned s reads (hang.Set j) = refl
 hang_unowned s reads (hang.Look j step) = refl
 hang_unowned s reads (hang.Clear j n) = refl
@@ -130,7 +130,7 @@ hang_unowned s reads (hang.Clear j n) = refl
 pub event_moves : (m : State) (e : Event) → Moves m.world (event_of m e).world (stand (m.seats (seat_of e)))
 event_moves m e = go (nat_lt (seat_of e) m.callers)
   where
-    step : (k : ℕ) (b : Bool) → Moves m.world (if b then record m { world = touched m.world (access_of (m.seats k)); seats = put m.seats k (answer_of (m.seats k) (found_at m.world (access_of (m.seats k)))) } else m).world (stand (m.seats k))
+    step : (k : ℕ) (b : Bool) → Moves m.world (if b then record m { world = touched m.world (access_of (m.seats k)); seats = put_at_index m.seats k (seat_answered (m.seats k) (found_at m.world (access_of (m.seats k)))) } else m).world (stand (m.seats k))
     step k true = step_moves m.world (m.seats k)
     step k false = λ d. inl refl
 
@@ -173,24 +173,24 @@ module _ (o : Opening) (es : List Event) (e : Event) (k : ℕ) (l : k < o.caller
   new = (trace o (es ++ e ∷ [])).history
 
   -- who has started nothing gains nothing
-  unstarted : ((d g : ℕ) → own_hold (stand s).own ≡ Proper d g → is_filling (stand s).own ≡ false → ⊥) → by k new ≡ by k old
+  unstarted : ((d g : ℕ) → own_hold (stand s).own ≡ Proper d g → is_filling (stand s).own ≡ false → ⊥) → placed_by k new ≡ placed_by k old
   unstarted never = by_no_swap o es e k quiet
       (λ x n q. never n.descriptor n.generation
       (subst (λ c. own_hold (stand ((run o es).seats c)).own ≡ Proper n.descriptor n.generation) q n.owns)
       (subst (λ c. is_filling (stand ((run o es).seats c)).own ≡ false) q n.started))
 
   -- the life h of a seat that has started it: nothing is gained and it is as it was, or it has succeeded now
-  module _ (h : Handle) (owns : own_hold (stand s).own ≡ Proper h.descriptor h.generation) (started : is_filling (stand s).own ≡ false) (mine : (i : Intent) → own_intent (stand s).own ≡ Some i → IsIntentOf u i) (a : History) (left : IfDone (succeeded w h) k s.calls u a (by k old)) where
+  module _ (h : Handle) (owns : own_hold (stand s).own ≡ Proper h.descriptor h.generation) (started : is_filling (stand s).own ≡ false) (mine : (i : Intent) → own_intent (stand s).own ≡ Some i → IsIntentOf u i) (a : History) (left : IfDone (succeeded w h) k s.calls u a (placed_by k old)) where
     abbrev LeftBy : History → Type 0
-    LeftBy g = IfDone (succeeded v h) k s.calls u a (by k g)
+    LeftBy g = IfDone (succeeded v h) k s.calls u a (placed_by k g)
 
-    kept : (g : History) → by k g ≡ by k old → succeeded v h ≡ succeeded w h → LeftBy g
-    kept g q z = subst (λ b. IfDone b k s.calls u a (by k g)) (sym z) (subst (IfDone (succeeded w h) k s.calls u a) (sym q) left)
+    kept : (g : History) → placed_by k g ≡ placed_by k old → succeeded v h ≡ succeeded w h → LeftBy g
+    kept g q z = subst (λ b. IfDone b k s.calls u a (placed_by k g)) (sym z) (subst (IfDone (succeeded w h) k s.calls u a) (sym q) left)
 
-    gained : (g : History) → succeeded w h ≡ false → succeeded v h ≡ true → GainsTheCall k s.calls u (by k old) (by k g) → LeftBy g
+    gained : (g : History) → succeeded w h ≡ false → succeeded v h ≡ true → GainsTheCall k s.calls u (placed_by k old) (placed_by k g) → LeftBy g
     gained g x y r =
-        let n : by k old ≡ a = subst (λ b. IfDone b k s.calls u a (by k old)) x left in
-        subst (λ b. IfDone b k s.calls u a (by k g)) (sym y) (subst (λ z. GainsTheCall k s.calls u z (by k g)) n r)
+        let n : placed_by k old ≡ a = subst (λ b. IfDone b k s.calls u a (placed_by k old)) x left in
+        subst (λ b. IfDone b k s.calls u a (placed_by k g)) (sym y) (subst (λ z. GainsTheCall k s.calls u z (placed_by k g)) n r)
 
     one_owner : (j d g : ℕ) → j < o.callers → own_hold (stand ((run o es).seats j)).own ≡ Proper d g → d ≡ h.descriptor → j ≡ k
     one_owner j d g b q z =
@@ -258,7 +258,7 @@ module _ (o : Opening) (es : List Event) (e : Event) (k : ℕ) (l : k < o.caller
   -- ---- what is left, where the words and the history have gone on
 
   module _ (a : History) where
-    stage_goes : (c : Commit) (x : Stage) → IsIntentOf u c.intent → (commits (record (resting s) { halted = c.halted }) c.intent c.copy x).own ≡ (stand s).own → StageLeft w k s.calls u x a (by k old) → StageLeft v k s.calls u x a (by k new)
+    stage_goes : (c : Commit) (x : Stage) → IsIntentOf u c.intent → (stand_commits (record (resting s) { halted = c.halted }) c.intent c.copy x).own ≡ (stand s).own → StageLeft w k s.calls u x a (placed_by k old) → StageLeft v k s.calls u x a (placed_by k new)
     stage_goes c (stage.Scan d worn) y q r = unstarted (λ d g i. absurd (no_hold d g (ap own_hold q ∙ i))) ∙ r
     stage_goes c (stage.Take d g) y q r = unstarted (λ d g i. absurd (no_hold d g (ap own_hold q ∙ i))) ∙ r
     stage_goes c (stage.Own h step) y q r = go (fills step) refl r
@@ -269,16 +269,16 @@ module _ (o : Opening) (es : List Event) (e : Event) (k : ℕ) (l : k < o.caller
         fill : is_filling (stand s).own ≡ fills step
         fill = ap is_filling (sym q) ∙ f.1
 
-        go : (b : Bool) → fills step ≡ b → IfDone (not (fills step) && succeeded w h) k s.calls u a (by k old) → IfDone (not (fills step) && succeeded v h) k s.calls u a (by k new)
-        go true z r = subst (λ b. IfDone (not b && succeeded v h) k s.calls u a (by k new)) (sym z)
-            (unstarted (λ d g y i. let u : true ≡ false = sym z ∙ sym fill ∙ i in absurd (cc)) ∙ subst (λ b. IfDone (not b && succeeded w h) k s.calls u a (by k old)) z r)
-        go false z r = subst (λ b. IfDone (not b && succeeded v h) k s.calls u a (by k new)) (sym z)
-            (life_left h (ap own_hold (sym q) ∙ f.0) (fill ∙ z) (λ i v. subst (IsIntentOf u) (same_intent c.intent i (sym f.2 ∙ ap own_intent q ∙ v)) y) a (subst (λ b. IfDone (not b && succeeded w h) k s.calls u a (by k old)) z r))
+        go : (b : Bool) → fills step ≡ b → IfDone (not (fills step) && succeeded w h) k s.calls u a (placed_by k old) → IfDone (not (fills step) && succeeded v h) k s.calls u a (placed_by k new)
+        go true z r = subst (λ b. IfDone (not b && succeeded v h) k s.calls u a (placed_by k new)) (sym z)
+            (unstarted (λ d g y i. let u : true ≡ false = sym z ∙ sym fill ∙ i in absurd (cc)) ∙ subst (λ b. IfDone (not b && succeeded w h) k s.calls u a (placed_by k old)) z r)
+        go false z r = subst (λ b. IfDone (not b && succeeded v h) k s.calls u a (placed_by k new)) (sym z)
+            (life_left h (ap own_hold (sym q) ∙ f.0) (fill ∙ z) (λ i v. subst (IsIntentOf u) (same_intent c.intent i (sym f.2 ∙ ap own_intent q ∙ v)) y) a (subst (λ b. IfDone (not b && succeeded w h) k s.calls u a (placed_by k old)) z r))
 
-    words_go : SeatLeft w k u s a (by k old) → SeatLeft v k u s a (by k new)
+    words_go : SeatLeft w k u s a (placed_by k old) → SeatLeft v k u s a (placed_by k new)
     words_go r = go s.work refl refl r
       where
-        go : (x : Work) → s.work ≡ x → (works (resting s) x).own ≡ (stand s).own → Left w k s.calls u s.told x a (by k old) → Left v k s.calls u s.told x a (by k new)
+        go : (x : Work) → s.work ≡ x → (works (resting s) x).own ≡ (stand s).own → Left w k s.calls u s.told x a (placed_by k old) → Left v k s.calls u s.told x a (placed_by k new)
         go work.Idle z q r = subst (GainsAsTold k u s.told a) (sym (idle_keeps o es k e (ap is_idle z))) r
         go (work.Look y) z q r = unstarted (λ d g i. absurd (no_hold d g (ap own_hold q ∙ i))) ∙ r
         go (work.Commit c) z q r = (stage_goes c c.stage r.1 q r.0, r.1)
@@ -286,10 +286,10 @@ module _ (o : Opening) (es : List Event) (e : Event) (k : ℕ) (l : k < o.caller
         go (work.Leave y) z q r = unstarted (λ d g i. absurd (no_hold d g (ap own_hold q ∙ i))) ∙ r
         go (work.Swap y) z q r = at y.step r
           where
-            stays : by k new ≡ by k old
+            stays : placed_by k new ≡ placed_by k old
             stays = unstarted (λ d g i. absurd (no_hold d g (ap own_hold q ∙ i)))
 
-            at : (step : SwapStep) → SwapLeft k s.calls u y.seen y.after step a (by k old) → SwapLeft k s.calls u y.seen y.after step a (by k new)
+            at : (step : SwapStep) → SwapLeft k s.calls u y.seen y.after step a (placed_by k old) → SwapLeft k s.calls u y.seen y.after step a (placed_by k new)
             at swap.Exchange r = (stays ∙ r.0, r.1)
             at swap.Wake r = subst (GainsTheCall k s.calls u a) (sym stays) r
             at (swap.Signal owed) r = subst (GainsTheCall k s.calls u a) (sym stays) r
@@ -298,7 +298,7 @@ module _ (o : Opening) (k : ℕ) (l : k < o.callers) where
   -- ---- what a step knows
 
   module _ (es : List Event) where
-    stage_knows : (c : Commit) (x : Stage) → (commits (record (resting ((run o es).seats k)) { halted = c.halted }) c.intent c.copy x).own ≡ (stand ((run o es).seats k)).own
+    stage_knows : (c : Commit) (x : Stage) → (stand_commits (record (resting ((run o es).seats k)) { halted = c.halted }) c.intent c.copy x).own ≡ (stand ((run o es).seats k)).own
         → StageKnows (touched (run o es).world (stage_access ((run o es).seats k).caller ((run o es).seats k).calls c x)) x
     stage_knows c (stage.Scan d worn) q = tt
     stage_knows c (stage.Take d g) q = tt
@@ -344,12 +344,12 @@ module _ (o : Opening) (k : ℕ) (l : k < o.callers) where
       own_step = go (nat_lt k (run o es).callers)
         where
           next : Bool → State
-          next b = if b then record (run o es) { world = touched (run o es).world (access_of ((run o es).seats k)); seats = put (run o es).seats k (answer_of ((run o es).seats k) (found_at (run o es).world (access_of ((run o es).seats k)))) } else run o es
+          next b = if b then record (run o es) { world = touched (run o es).world (access_of ((run o es).seats k)); seats = put_at_index (run o es).seats k (seat_answered ((run o es).seats k) (found_at (run o es).world (access_of ((run o es).seats k)))) } else run o es
 
-          step : (b : Bool) → Calm (next b) → Goes (if b then record (run o es) { world = touched (run o es).world (access_of ((run o es).seats k)); seats = put (run o es).seats k (answer_of ((run o es).seats k) (found_at (run o es).world (access_of ((run o es).seats k)))) } else run o es)
-          step true z r = subst (λ x. SeatLeft (touched (run o es).world (access_of ((run o es).seats k))) k u x a g) (sym (put_here (run o es).seats k (answer_of ((run o es).seats k) (found_at (run o es).world (access_of ((run o es).seats k))))))
+          step : (b : Bool) → Calm (next b) → Goes (if b then record (run o es) { world = touched (run o es).world (access_of ((run o es).seats k)); seats = put_at_index (run o es).seats k (seat_answered ((run o es).seats k) (found_at (run o es).world (access_of ((run o es).seats k)))) } else run o es)
+          step true z r = subst (λ x. SeatLeft (touched (run o es).world (access_of ((run o es).seats k))) k u x a g) (sym (put_here (run o es).seats k (seat_answered ((run o es).seats k) (found_at (run o es).world (access_of ((run o es).seats k))))))
               (answer_left (touched (run o es).world (access_of ((run o es).seats k))) k u ((run o es).seats k) a g (found_at (run o es).world (access_of ((run o es).seats k))) step_knows
-              (calm_seat (answer_of ((run o es).seats k) (found_at (run o es).world (access_of ((run o es).seats k)))) (ap (λ (x : Seat). takes (stand ((run o es).seats k)).swap (stand x).swap) (sym (put_here (run o es).seats k (answer_of ((run o es).seats k) (found_at (run o es).world (access_of ((run o es).seats k)))))) ∙ z)) r)
+              (calm_seat (seat_answered ((run o es).seats k) (found_at (run o es).world (access_of ((run o es).seats k)))) (ap (λ (x : Seat). takes (stand ((run o es).seats k)).swap (stand x).swap) (sym (put_here (run o es).seats k (seat_answered ((run o es).seats k) (found_at (run o es).world (access_of ((run o es).seats k)))))) ∙ z)) r)
           step false z r = r
 
           go : (b : Bool) → Calm (if b then stepped (run o es) k else run o es) → Goes (if b then stepped (run o es) k else run o es)
@@ -378,7 +378,7 @@ module _ (o : Opening) (k : ℕ) (l : k < o.callers) where
   -- ---- a whole task
 
   abbrev pub LeftAfter : Task → History → List Event → Type 0
-  LeftAfter u a es = SeatLeft (run o es).world k u ((run o es).seats k) a (by k (trace o es).history)
+  LeftAfter u a es = SeatLeft (run o es).world k u ((run o es).seats k) a (placed_by k (trace o es).history)
 
   -- the seat swaps a word
   swaps_now : (u : Task) (a : History) (es : List Event) (e : Event) (x : Placed) → SwapOf (run o es) e (trace o es).clock x → seat_of e ≡ k → LeftAfter u a es → LeftAfter u a (es ++ e ∷ [])
@@ -386,25 +386,25 @@ module _ (o : Opening) (k : ℕ) (l : k < o.callers) where
       let s = (run o es).seats k in
       let b = trace o (es ++ e ∷ []) in
       let works : s.work ≡ swap_at y.seen y.after swap.Exchange = ap (λ j. ((run o es).seats j).work) (sym q) ∙ y.works in
-      let was = subst (λ w. Left (run o es).world k s.calls u s.told w a (by k (trace o es).history)) works r in
+      let was = subst (λ w. Left (run o es).world k s.calls u s.told w a (placed_by k (trace o es).history)) works r in
       let seat : (run o (es ++ e ∷ [])).seats k ≡ swapped s y.seen y.after =
       ap (λ (m : State). m.seats k) (run-append o es (e ∷ [])) ∙ ap (λ j. (event_of (run o es) e).seats j) (sym q) ∙ ap (λ (m : State). m.seats (seat_of e)) y.goes
       ∙ put_here (run o es).seats (seat_of e) _ ∙ ap (λ j. swapped ((run o es).seats j) y.seen y.after) q in
       let caller : ((run o es).seats (seat_of e)).caller ≡ k = (seats_stay o es (seat_of e)).0 ∙ q in
       let number : lines.one_more ((run o es).seats (seat_of e)).calls ≡ lines.one_more s.calls = ap (λ j. lines.one_more ((run o es).seats j).calls) q in
       let is : IsEntryOf k (lines.one_more s.calls) (task.Swap y.seen y.after) x = (ap (λ (z : Placed). z.mode) y.is, ap (λ (z : Placed). z.entry) y.is ∙ (λ i. swap_entry (caller i) (number i) y.seen y.after)) in
-      let gained : GainsTheCall k (lines.one_more s.calls) u (by k (trace o es).history) (by k (inserted x (trace o es).history)) =
+      let gained : GainsTheCall k (lines.one_more s.calls) u (placed_by k (trace o es).history) (placed_by k (inserted x (trace o es).history)) =
       gains k (lines.one_more s.calls) u x (trace o es).history (swapper o es e x y ∙ q) (subst (λ t. IsEntryOf k (lines.one_more s.calls) t x) (sym was.1) is) in
-      let now : GainsTheCall k (lines.one_more s.calls) u a (by k b.history) =
-      subst (GainsTheCall k (lines.one_more s.calls) u a) (ap (by k) (sym (swap_enters_it o es e x y))) (subst (λ z. GainsTheCall k (lines.one_more s.calls) u z (by k (inserted x (trace o es).history))) was.0 gained) in
-      subst (λ z. SeatLeft (run o (es ++ e ∷ [])).world k u z a (by k b.history)) (sym seat) now
+      let now : GainsTheCall k (lines.one_more s.calls) u a (placed_by k b.history) =
+      subst (GainsTheCall k (lines.one_more s.calls) u a) (ap (placed_by k) (sym (swap_enters_it o es e x y))) (subst (λ z. GainsTheCall k (lines.one_more s.calls) u z (placed_by k (inserted x (trace o es).history))) was.0 gained) in
+      subst (λ z. SeatLeft (run o (es ++ e ∷ [])).world k u z a (placed_by k b.history)) (sym seat) now
 
   pub one_more : (u : Task) (a : History) (es : List Event) (e : Event) → BeginsNothing k (e ∷ []) → LeftAfter u a es → LeftAfter u a (es ++ e ∷ [])
   one_more u a es e n r = go (seat_of e == k) (takes (stand ((run o es).seats (seat_of e))).swap (stand ((event_of (run o es) e).seats (seat_of e))).swap) refl refl
     where
-      stays : ((x : Placed) → SwapOf (run o es) e (trace o es).clock x → seat_of e ≡ k → ⊥) → (seat_of e ≡ k → Calm es u a (by k (trace o (es ++ e ∷ [])).history) (event_of (run o es) e)) → LeftAfter u a (es ++ e ∷ [])
-      stays quiet calm = subst (λ (m : State). SeatLeft m.world k u (m.seats k) a (by k (trace o (es ++ e ∷ [])).history)) (sym (run-append o es (e ∷ [])))
-          (seat_goes es u a (by k (trace o (es ++ e ∷ [])).history) e n calm (words_go o es e k l u quiet a r))
+      stays : ((x : Placed) → SwapOf (run o es) e (trace o es).clock x → seat_of e ≡ k → ⊥) → (seat_of e ≡ k → Calm es u a (placed_by k (trace o (es ++ e ∷ [])).history) (event_of (run o es) e)) → LeftAfter u a (es ++ e ∷ [])
+      stays quiet calm = subst (λ (m : State). SeatLeft m.world k u (m.seats k) a (placed_by k (trace o (es ++ e ∷ [])).history)) (sym (run-append o es (e ∷ [])))
+          (seat_goes es u a (placed_by k (trace o (es ++ e ∷ [])).history) e n calm (words_go o es e k l u quiet a r))
 
       go : (b c : Bool) → (seat_of e == k) ≡ b → takes (stand ((run o es).seats (seat_of e))).swap (stand ((event_of (run o es) e).seats (seat_of e))).swap ≡ c → LeftAfter u a (es ++ e ∷ [])
       go false c q z = stays (λ x y i. eqb-false (seat_of e) k q i) (λ i. absurd (eqb-false (seat_of e) k q i))
@@ -418,20 +418,20 @@ module _ (o : Opening) (k : ℕ) (l : k < o.callers) where
       let h = head_of k e more n in
       subst (LeftAfter u a) (append_assoc es (e ∷ []) more) (goes_on u a (es ++ e ∷ []) more h.1 (one_more u a es e h.0 r))
 
-  pub begins_left : (es : List Event) (t : Task) → is_idle ((run o es).seats k).work ≡ true → is_idle (begun ((run o es).seats k) t).work ≡ false → LeftAfter t (by k (trace o es).history) (es ++ Begin k t ∷ [])
+  pub begins_left : (es : List Event) (t : Task) → is_idle ((run o es).seats k).work ≡ true → is_idle (begun ((run o es).seats k) t).work ≡ false → LeftAfter t (placed_by k (trace o es).history) (es ++ Begin k t ∷ [])
   begins_left es t i b =
       let s = (run o es).seats k in
       let n = (run_shape o es).2 in
       let m : run o (es ++ Begin k t ∷ []) ≡ happened (run o es) (Begin k t) = run-append o es (Begin k t ∷ []) ∙ event_in (run o es) (Begin k t) (omega arith) in
       let is : begun s t ≡ begun_idle s t = rw i refl in
-      let h : by k (trace o (es ++ Begin k t ∷ [])).history ≡ by k (trace o es).history = ap (by k) (history_kept o es (Begin k t ∷ []) (All-cons IsNoStep (Begin k t) [] tt (All-nil IsNoStep))) in
-      let r = begun_left (run o es).world k t s (by k (trace o es).history) (by k (trace o (es ++ Begin k t ∷ [])).history) t refl i (ap (λ (x : Seat). is_idle x.work) (sym is) ∙ b) h in
-      subst (λ (x : State). SeatLeft x.world k t (x.seats k) (by k (trace o es).history) (by k (trace o (es ++ Begin k t ∷ [])).history)) (sym m)
-      (subst (λ x. SeatLeft (run o es).world k t x (by k (trace o es).history) (by k (trace o (es ++ Begin k t ∷ [])).history)) (sym (put_here (run o es).seats k (begun s t) ∙ is)) r)
+      let h : placed_by k (trace o (es ++ Begin k t ∷ [])).history ≡ placed_by k (trace o es).history = ap (placed_by k) (history_kept o es (Begin k t ∷ []) (All-cons IsNoStep (Begin k t) [] tt (All-nil IsNoStep))) in
+      let r = begun_left (run o es).world k t s (placed_by k (trace o es).history) (placed_by k (trace o (es ++ Begin k t ∷ [])).history) t refl i (ap (λ (x : Seat). is_idle x.work) (sym is) ∙ b) h in
+      subst (λ (x : State). SeatLeft x.world k t (x.seats k) (placed_by k (trace o es).history) (placed_by k (trace o (es ++ Begin k t ∷ [])).history)) (sym m)
+      (subst (λ x. SeatLeft (run o es).world k t x (placed_by k (trace o es).history) (placed_by k (trace o (es ++ Begin k t ∷ [])).history)) (sym (put_here (run o es).seats k (begun s t) ∙ is)) r)
 
   pub gains_as_told : (es more : List Event) (t : Task) → is_idle ((run o es).seats k).work ≡ true → is_idle (begun ((run o es).seats k) t).work ≡ false → BeginsNothing k more → is_idle ((run o (es ++ Begin k t ∷ more)).seats k).work ≡ true
-      → GainsAsTold k t ((run o (es ++ Begin k t ∷ more)).seats k).told (by k (trace o es).history) (by k (trace o (es ++ Begin k t ∷ more)).history)
+      → GainsAsTold k t ((run o (es ++ Begin k t ∷ more)).seats k).told (placed_by k (trace o es).history) (placed_by k (trace o (es ++ Begin k t ∷ more)).history)
   gains_as_told es more t i b n d =
-      let a = by k (trace o es).history in
+      let a = placed_by k (trace o es).history in
       let r = subst (LeftAfter t a) (append_assoc es (Begin k t ∷ []) more) (goes_on t a (es ++ Begin k t ∷ []) more n (begins_left es t i b)) in
-      ended_left (run o (es ++ Begin k t ∷ more)).world k t ((run o (es ++ Begin k t ∷ more)).seats k) a (by k (trace o (es ++ Begin k t ∷ more)).history) d r
+      ended_left (run o (es ++ Begin k t ∷ more)).world k t ((run o (es ++ Begin k t ∷ more)).seats k) a (placed_by k (trace o (es ++ Begin k t ∷ more)).history) d r

@@ -20,7 +20,7 @@ use Rattle.kc_machine_traces.specs.kc_machine_steps.declared.aid.AidStep.{AidSte
 use Rattle.kc_machine_traces.specs.kc_machine_steps.declared.aid.AidStep.TheVariants as aid
 use Rattle.kc_machine_traces.specs.kc_machine_steps.declared.aid.AidNext.TheVariants as aiding
 use Rattle.kc_machine_traces.proofs.kc_machine.Functions.{put_here}
-use Rattle.kc_machine_traces.specs.kc_machine.Machine.{World, put}
+use Rattle.kc_machine_traces.specs.kc_machine.Machine.{World, put_at_index}
 use Rattle.kc_machine_traces.specs.Claims.{step_owes, turn_owes, PassOwes, OwnOwes, next_owes, AidOwes, OwesRelease}
 use Rattle.kc_machine_traces.specs.kc_machine_commits.Halts.{halted_pass, halted_aid_pass, halted_aid}
 use Rattle.kc_machine_traces.specs.kc_machine_invariants.Effects
@@ -31,7 +31,7 @@ use Rattle.kc_machine_traces.specs.Lines.{IsInstalledLine}
 use Rattle.kc_machine_traces.proofs.kc_machine_invariants.Filled.{is_there}
 use Rattle.kc_machine_traces.proofs.kc_machine_invariants.Phases.{same_step}
 use Rattle.kc_machine_traces.proofs.kc_machine_invariants.Shapes.{own_course, same_course, aids_course, waits}
-use Rattle.kc_machine_traces.specs.kc_machine_steps.Lines.{next_line, after_line, word_of, is_installed, first_of, second_of, resolved_version, resolved_value}
+use Rattle.kc_machine_traces.specs.kc_machine_steps.Lines.{next_line, after_line, reference_word, is_installed, first_of, second_of, resolved_version, resolved_value}
 use Rattle.kc_machine_traces.specs.kc_machine_steps.Passes.{from_install, install_or_check, from_check, check_or_decide, from_release, decided_as, check_drop_next}
 
 -- the line that a reference names is one of those that a pass goes over
@@ -129,7 +129,7 @@ module _ (h : Handle) (i : ℕ) where
         → not (nat_lt i j) ≡ true → t ≡ turn q (from_release m xs (after_line j) p) → turn_owes i t ≡ true
     goes_on w q m xs j x p t f y g ne o e = let a = not_below j o in behind_owes w q m xs (after_line j) p t f y (after_at_most j (let b : j ≢ i = (λ z. ne (sym z)) in omega (arith, b))) e
 
-    pub pass_owes : (k : ℕ) {w w' : World} {s s' : Stand} → Effects.Effect k w s w' s' → Grounds w s → IsInstalledLine w h.descriptor i → w'.word (w.second h.descriptor i).loc ≡ word_of h i → PassOwes h i s.pass → OwesRelease h i s'
+    pub pass_owes : (k : ℕ) {w w' : World} {s s' : Stand} → Effects.Effect k w s w' s' → Grounds w s → IsInstalledLine w h.descriptor i → w'.word (w.second h.descriptor i).loc ≡ reference_word h i → PassOwes h i s.pass → OwesRelease h i s'
     pass_owes k (Effects.start s q e z) g f r o = absurd o
     pass_owes k (Effects.install s {m} {xs} {j} x q a b e z put_in below) g f r o = inl (o.0, ap (step_owes i) e ∙ install_owes m xs (after_line j))
     pass_owes k (Effects.installed s {m} {xs} {j} x q a b e z) g f r o = inl (o.0, ap (step_owes i) e ∙ install_owes m xs (after_line j))
@@ -142,16 +142,16 @@ module _ (h : Handle) (i : ℕ) where
         let y = subst (λ y. Target w y m xs) o.0 (g.course a m xs refl) in
         let gone : i ≡ j → ⊥ = (λ q.
         let here = ap (λ (v : Line). v.seen.loc.0) (y.line j x b) in
-        let stands = subst (λ n. put w.word x.seen.loc.0 (released x p) (w.second h.descriptor n).loc ≡ word_of h i) q r in
-        let plain = ap (put w.word x.seen.loc.0 (released x p)) here ∙ put_here w.word x.seen.loc.0 (released x p) in
+        let stands = subst (λ n. put_at_index w.word x.seen.loc.0 (released x p) (w.second h.descriptor n).loc ≡ reference_word h i) q r in
+        let plain = ap (put_at_index w.word x.seen.loc.0 (released x p)) here ∙ put_here w.word x.seen.loc.0 (released x p) in
         absurd (cc)) in
         inl (o.0, goes_on w (Release j p) m xs j x p t f y b gone o.1 e)
     pass_owes k (Effects.skip {w} s {h = a} {m} {xs} {j} {p} x t b c e z) g f r o =
         let y = subst (λ y. Target w y m xs) o.0 (g.course a m xs refl) in
         let gone : i ≡ j → ⊥ = (λ q.
         let here = ap (λ (v : Line). v.seen.loc.0) (y.line j x b) in
-        let stands = subst (λ n. w.word (w.second h.descriptor n).loc ≡ word_of h n) q r in
-        c (ap w.word (sym here) ∙ stands ∙ ap (λ v. word_of v j) (sym o.0))) in
+        let stands = subst (λ n. w.word (w.second h.descriptor n).loc ≡ reference_word h n) q r in
+        c (ap w.word (sym here) ∙ stands ∙ ap (λ v. reference_word v j) (sym o.0))) in
         inl (o.0, goes_on w (Release j p) m xs j x p t f y b gone o.1 e)
     pass_owes k (Effects.own_meets s {h = a} {e} {m} {xs} {i = y} c) g f r o = inr (inl (sym (same_course e a m y.mode xs y.lines.items g.shape.0).0 ∙ o.0))
     pass_owes k (Effects.own_ends s) g f r o = absurd (cc)
@@ -192,5 +192,5 @@ module _ (h : Handle) (i : ℕ) where
     aid_owes k (Effects.halt_back s n) g f d o = absurd (cc)
     aid_owes k e g f d o = inr (inr o)
 
-    pub owes_on : (k : ℕ) {w w' : World} {s s' : Stand} → Effects.Effect k w s w' s' → Grounds w s → IsInstalledLine w h.descriptor i → w'.word (w.second h.descriptor i).loc ≡ word_of h i → (w'.status h.descriptor).phase ≢ Active → OwesRelease h i s → OwesRelease h i s'
+    pub owes_on : (k : ℕ) {w w' : World} {s s' : Stand} → Effects.Effect k w s w' s' → Grounds w s → IsInstalledLine w h.descriptor i → w'.word (w.second h.descriptor i).loc ≡ reference_word h i → (w'.status h.descriptor).phase ≢ Active → OwesRelease h i s → OwesRelease h i s'
     owes_on k e g f r d o = ⊎_elim (pass_owes k e g f r) (λ x. ⊎_elim (own_owes k e) (aid_owes k e g f d) x) o

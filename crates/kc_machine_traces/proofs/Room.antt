@@ -39,7 +39,7 @@ use Rattle.kc_machine_traces.specs.kc_machine_commits.Commits.{own_access, stage
 use Rattle.kc_machine_traces.proofs.kc_machine_invariants.Sums.{sum_below_part}
 use Rattle.kc_machine_traces.specs.kc_machine_invariants.Claims.{HoldsAreCounted}
 use Rattle.kc_machine_traces.specs.kc_machine_invariants.Holds.{Hold, NoHold, Proper, Stray, on, one_at, dropping, holds_on, own_hold, check_hold, aid_hold, look_hold, sum_below, step_hold, look_step_hold}
-use Rattle.kc_machine_traces.specs.kc_machine_invariants.Stands.{Stand, stand, works, resting, Waits, aids, owns, hangs, commits}
+use Rattle.kc_machine_traces.specs.kc_machine_invariants.Stands.{Stand, stand, works, resting, Waits, stand_aids, owns, stand_hangs, stand_commits}
 use Rattle.kc_machine_traces.specs.kc_machine_invariants.Counts.{one_if_held, holds_of, AtMostThree}
 use Rattle.kc_machine_traces.specs.Room.{AddsHaveRoom, SubtractsHaveRoom}
 use Rattle.kc_machine_traces.specs.kc_machine_steps.Aids.{aid_access}
@@ -119,7 +119,7 @@ look_back d l (look.First r p) e = absurd (cc)
 look_back d l (look.Second r p f) e = absurd (cc)
 look_back d l (look.Drop r stray seen) e = dropped d r stray e
 
-aid_back : (d : ℕ) (t : Stand) (r : Reference) (c : Aided) (a : AidStep) → aid_access r c.lines.items a ≡ back d → 1 ≤ holds_on d (aids t r c a)
+aid_back : (d : ℕ) (t : Stand) (r : Reference) (c : Aided) (a : AidStep) → aid_access r c.lines.items a ≡ back d → 1 ≤ holds_on d (stand_aids t r c a)
 aid_back d t r c aid.Hold e = absurd (cc)
 aid_back d t r c aid.Status e = absurd (cc)
 aid_back d t r c (aid.First p) e = absurd (cc)
@@ -156,7 +156,7 @@ own_back d caller calls t c h (own.Wake k owed) e = absurd (go (slice_get c.inte
 own_back d caller calls t c h (own.Signal owed) e = absurd (cc)
 own_back d caller calls t c h (own.Drop p) e = let q = one_here d h.descriptor (let z : h.descriptor ≡ d = cc in z) in omega arith
 
-hang_back : (d caller : ℕ) (t : Stand) (reads : List Seen) (s : HangStep) (o : Option Seen) → hang_access_of caller s o ≡ back d → 1 ≤ holds_on d (hangs t reads s)
+hang_back : (d caller : ℕ) (t : Stand) (reads : List Seen) (s : HangStep) (o : Option Seen) → hang_access_of caller s o ≡ back d → 1 ≤ holds_on d (stand_hangs t reads s)
 hang_back d caller t reads (hang.Set k) None e = absurd (cc)
 hang_back d caller t reads (hang.Set k) (Some x) e = absurd (cc)
 hang_back d caller t reads (hang.Look k s) None e = absurd (cc)
@@ -169,7 +169,7 @@ work_back d caller calls t work.Idle e = absurd (cc)
 work_back d caller calls t (work.Look l) e = let q = look_back d l.loc l.step e in omega arith
 work_back d caller calls t (work.Commit c) e = go c.stage e
   where
-    go : (s : Stage) → stage_access caller calls c s ≡ back d → 1 ≤ holds_on d (commits (record t { halted = c.halted }) c.intent c.copy s)
+    go : (s : Stage) → stage_access caller calls c s ≡ back d → 1 ≤ holds_on d (stand_commits (record t { halted = c.halted }) c.intent c.copy s)
     go (Scan a b) e = absurd (cc)
     go (Take a b) e = absurd (cc)
     go (Own h s) e = own_back d caller calls (record t { halted = c.halted }) c h s e

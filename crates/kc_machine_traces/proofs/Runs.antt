@@ -14,9 +14,9 @@ use Rattle.kc_machine_traces.specs.kc_machine_steps.declared.task.Event.{Event}
 use Rattle.kc_machine_traces.specs.kc_machine_steps.declared.task.Event.TheVariants.{Begin, Step, Halt}
 use Rattle.kc_machine_traces.specs.kc_machine.Works as work
 use Rattle.kc_machine_traces.proofs.kc_machine.Functions.{put_cases}
-use Rattle.kc_machine_traces.specs.kc_machine.Machine.{State, Opening, put, touched, found_at, room, possible, stepped, happened, event_of, seat_of, run_from, run, opened, pool_size}
+use Rattle.kc_machine_traces.specs.kc_machine.Machine.{State, Opening, put_at_index, touched, found_at, room, possible, stepped, happened, event_of, seat_of, run_from, run, opened_state, pool_size}
 use Rattle.kc_machine_traces.specs.kc_machine.Schedules.{BeginsWellMade, IsSchedule}
-use Rattle.kc_machine_traces.specs.kc_machine.Seats.{work_access, access_of, answer_of, is_idle}
+use Rattle.kc_machine_traces.specs.kc_machine.Seats.{work_access, access_of, seat_answered, is_idle}
 use Rattle.kc_machine_traces.specs.kc_machine_steps.declared.aid.AidStep.{AidStep}
 use Rattle.kc_machine_traces.specs.kc_machine_steps.declared.aid.Aided.{Aided}
 use Rattle.kc_machine_traces.specs.kc_machine_steps.declared.line.Intent.{Intent}
@@ -34,7 +34,7 @@ use Rattle.kc_machine_traces.specs.kc_machine.declared.hang.HangStep.TheVariants
 use Rattle.kc_machine_traces.specs.Claims.{owed_by, owed_by_swap}
 use Rattle.kc_machine_traces.proofs.kc_machine_invariants.PoolLaws.{holds_counted}
 use Rattle.kc_machine_traces.proofs.kc_machine_invariants.Sums.{sum_below_part}
-use Rattle.kc_machine_traces.specs.kc_machine_invariants.Stands.{Stand, Waits, resting, aids, owns, commits, hangs, works, stand}
+use Rattle.kc_machine_traces.specs.kc_machine_invariants.Stands.{Stand, Waits, resting, stand_aids, owns, stand_commits, stand_hangs, works, stand}
 use Rattle.kc_machine_traces.proofs.kc_machine_invariants.LifeLaws.{generations_fit, calls_fit, three_holds}
 use Rattle.kc_machine_traces.proofs.Accesses.{work_touches}
 use Rattle.kc_machine_traces.proofs.Callers.{caller_of, owed_in, owed_in_swap}
@@ -53,7 +53,7 @@ use Rattle.kc_machine_traces.proofs.Others.{run_shape}
 
 -- ---- the calls of a stand are the seat's
 
-aids_calls : (t : Stand) (r : Reference) (a : Aided) (step : AidStep) → (aids t r a step).calls ≡ t.calls
+aids_calls : (t : Stand) (r : Reference) (a : Aided) (step : AidStep) → (stand_aids t r a step).calls ≡ t.calls
 aids_calls t r a (aid.Pass p) = refl
 aids_calls t r a _ = refl
 
@@ -62,7 +62,7 @@ owns_calls t i a h (own.Pass p) = refl
 owns_calls t i a h (own.Aid k r step) = aids_calls (record t { own = Waits h i k }) r a step
 owns_calls t i a h _ = refl
 
-hangs_calls : (t : Stand) (reads : List Seen) (step : HangStep) → (hangs t reads step).calls ≡ t.calls
+hangs_calls : (t : Stand) (reads : List Seen) (step : HangStep) → (stand_hangs t reads step).calls ≡ t.calls
 hangs_calls t reads (hang.Look k step) = refl
 hangs_calls t reads _ = refl
 
@@ -71,7 +71,7 @@ works_calls t work.Idle = refl
 works_calls t (work.Look l) = refl
 works_calls t (work.Commit c) = go c.stage
   where
-    go : (x : Stage) → (commits (record t { halted = c.halted }) c.intent c.copy x).calls ≡ t.calls
+    go : (x : Stage) → (stand_commits (record t { halted = c.halted }) c.intent c.copy x).calls ≡ t.calls
     go (Scan d worn) = refl
     go (Take d g) = refl
     go (Own h step) = owns_calls (record t { halted = c.halted }) c.intent c.copy h step
@@ -108,7 +108,7 @@ module _ (o : Opening) where
     pub words : WorldIn o m.world
     pub seats : SeatsIn o m
 
-  seat_moves : (m : State) (k : ℕ) (s : Seat) → WorkIn o s.work → SeatsIn o m → (j : ℕ) → j < o.callers → WorkIn o (put m.seats k s j).work
+  seat_moves : (m : State) (k : ℕ) (s : Seat) → WorkIn o s.work → SeatsIn o m → (j : ℕ) → j < o.callers → WorkIn o (put_at_index m.seats k s j).work
   seat_moves m k s y g j l = put_cases (λ (x : Seat). WorkIn o x.work) m.seats k s j (λ q. y) (λ ne. g j l)
 
   not_idle : (m : State) (caller calls : ℕ) (x : Work) → possible m (work_access caller calls x) ≡ true → is_idle x ≡ false
@@ -122,10 +122,10 @@ module _ (o : Opening) where
   steps : (es : List Event) → IsSchedule o es → (k : ℕ) → k < o.callers → InRange (run o es) → InRange (stepped (run o es) k)
   steps es w k l f = go (run o es) f (λ e. touches es w f.seats k l e) (answer_in o ((run o es).seats k) _ (fit_always o es k) (formed_always o es k) (intents_made o es w k) (searches_in_range o es k l) (found_in o (run o es).world (access_of ((run o es).seats k)) f.words) (f.seats k l))
     where
-      go : (m : State) → InRange m → (is_idle (m.seats k).work ≡ false → AccessIn o (access_of (m.seats k))) → WorkIn o (answer_of (m.seats k) (found_at m.world (access_of (m.seats k)))).work → InRange (stepped m k)
+      go : (m : State) → InRange m → (is_idle (m.seats k).work ≡ false → AccessIn o (access_of (m.seats k))) → WorkIn o (seat_answered (m.seats k) (found_at m.world (access_of (m.seats k)))).work → InRange (stepped m k)
       go m f t y = by_room (possible m (access_of (m.seats k))) refl
         where
-          by_room : (b : Bool) → possible m (access_of (m.seats k)) ≡ b → InRange (if b then record m { world = touched m.world (access_of (m.seats k)); seats = put m.seats k (answer_of (m.seats k) (found_at m.world (access_of (m.seats k)))) } else m)
+          by_room : (b : Bool) → possible m (access_of (m.seats k)) ≡ b → InRange (if b then record m { world = touched m.world (access_of (m.seats k)); seats = put_at_index m.seats k (seat_answered (m.seats k) (found_at m.world (access_of (m.seats k)))) } else m)
           by_room true e = record {
             words = touched_in o m.world _ (t (not_idle m (m.seats k).caller (m.seats k).calls (m.seats k).work e)) f.words;
             seats = seat_moves m k _ y f.seats;
@@ -155,7 +155,7 @@ module _ (o : Opening) where
   run_in : (done coming : List Event) → IsSchedule o done → All (BeginsWellMade o.locations) coming → InRange (run o done) → InRange (run_from (run o done) coming)
   run_in done [] c a f = f
   run_in done (e ∷ es) c a f =
-      let p = run_push (opened o) done e in
+      let p = run_push (opened_state o) done e in
       let b : IsSchedule o (done ++ e ∷ []) = (c.0, All-push (BeginsWellMade o.locations) done e c.1 (All-head (BeginsWellMade o.locations) e es a)) in
       subst (λ m. InRange (run_from m es)) p
       (run_in (done ++ e ∷ []) es b (All-tail (BeginsWellMade o.locations) e es a) (subst InRange (sym p) (event_in done c e f)))
@@ -197,7 +197,7 @@ steps_possible o es w k l i =
     has_room d grip.Subtract e = subtracts_room (run o es) (holds_counted o es) k d (let c = (run_shape o es).2 in omega arith) e
 
 pub steps_happen : (o : Opening) (es : List Event) → IsSchedule o es → StepsHappen o es
-steps_happen o es w k l i = run_push o (opened o) es (Step k) ∙ here (lt_is k (run o es).callers (let c = (run_shape o es).2 in omega arith)) (steps_possible o es w k l i).0
+steps_happen o es w k l i = run_push o (opened_state o) es (Step k) ∙ here (lt_is k (run o es).callers (let c = (run_shape o es).2 in omega arith)) (steps_possible o es w k l i).0
   where
     here : nat_lt k (run o es).callers ≡ true → possible (run o es) (access_of ((run o es).seats k)) ≡ true → event_of (run o es) (Step k) ≡ one_step (run o es) k
     here a b = rw a (rw b refl)

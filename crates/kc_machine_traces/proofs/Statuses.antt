@@ -38,7 +38,7 @@ use Rattle.kc_machine_invariants.specs.kc_machine.declared.seat.Seat.{Seat}
 use Rattle.kc_machine_invariants.specs.kc_machine_commits.Commits.{own_access, stage_access, fill_first, fill_second, wake_access}
 use Rattle.kc_machine_invariants.proofs.Tests.{status_active}
 use Rattle.kc_machine_invariants.specs.Holds.{Proper, own_hold}
-use Rattle.kc_machine_invariants.specs.Stands.{Stand, Waits, Passing, NoPass, Over, stand, resting, works, commits, owns, aids}
+use Rattle.kc_machine_invariants.specs.Stands.{Stand, Waits, Passing, NoPass, Over, stand, resting, works, stand_commits, owns, stand_aids}
 use Rattle.kc_machine_invariants.specs.Owners.{is_filling}
 use Rattle.kc_machine_invariants.specs.kc_machine_steps.Aids.{aid_access}
 use Rattle.kc_machine_invariants.specs.kc_machine_steps.Looks.{look_access}
@@ -96,7 +96,7 @@ module _ (w : World) where
       go None = inl refl
       go (Some x) = inl refl
 
-  aid_moves : (b : Stand) (r : Reference) (c : Aided) (a : AidStep) → Moves w (touched w (aid_access r c.lines.items a)) (aids b r c a)
+  aid_moves : (b : Stand) (r : Reference) (c : Aided) (a : AidStep) → Moves w (touched w (aid_access r c.lines.items a)) (stand_aids b r c a)
   aid_moves b r c aid.Hold d = inl refl
   aid_moves b r c aid.Status d = inl refl
   aid_moves b r c (aid.First p) d = inl refl
@@ -105,7 +105,7 @@ module _ (w : World) where
   aid_moves b r c aid.Owner d = inl refl
   aid_moves b r c aid.LoadFirst d = inl refl
   aid_moves b r c (aid.LoadSecond x) d = inl refl
-  aid_moves b r c (aid.Pass p) d = pass_moves r.handle c.lines.items p (aids b r c (aid.Pass p)) (λ d q. q) d
+  aid_moves b r c (aid.Pass p) d = pass_moves r.handle c.lines.items p (stand_aids b r c (aid.Pass p)) (λ d q. q) d
   aid_moves b r c (aid.Leave o) d = inl refl
   aid_moves b r c (aid.Drop stray o) d = inl refl
 
@@ -158,7 +158,7 @@ module _ (w : World) where
     own_moves c h (own.Signal owed) d = inl refl
     own_moves c h (own.Drop p) d = inl refl
 
-    stage_moves : (c : Commit) (x : Stage) → Moves w (touched w (stage_access s.caller s.calls c x)) (commits (record (resting s) { halted = c.halted }) c.intent c.copy x)
+    stage_moves : (c : Commit) (x : Stage) → Moves w (touched w (stage_access s.caller s.calls c x)) (stand_commits (record (resting s) { halted = c.halted }) c.intent c.copy x)
     stage_moves c (stage.Scan d worn) e = inl refl
     stage_moves c (stage.Take d g) e = inl refl
     stage_moves c (stage.Own h step) e = own_moves c h step e

@@ -51,12 +51,12 @@ use Rattle.kc_machine_traces.specs.kc_machine.declared.hang.HangNext.TheVariants
 use Rattle.kc_machine_traces.specs.kc_machine.Works.{Work}
 use Rattle.kc_machine_traces.specs.kc_machine.Works as work
 use Rattle.kc_machine_traces.specs.kc_machine.declared.seat.Seat.{Seat}
-use Rattle.kc_machine_traces.specs.kc_machine_steps.Lines.{next_line, after_line, resolved_version, joined}
+use Rattle.kc_machine_traces.specs.kc_machine_steps.Lines.{next_line, after_line, resolved_version, line_of_halves}
 use Rattle.kc_machine_traces.specs.kc_machine_steps.Looks.{look_next, looks_on, told_by, reference_of, halts_at_once, look_halted_at}
 use Rattle.kc_machine_traces.specs.kc_machine_steps.Looks as looks
-use Rattle.kc_machine_traces.specs.kc_machine.Hangs.{set_or_look, after_set, clear_or_changed, after_clear, look_or_end, look_goes_on, look_of, hang_next, hangs_on, onward_of, leaves_on, unblocks_or_tells}
+use Rattle.kc_machine_traces.specs.kc_machine.Hangs.{set_or_look, after_set, clear_or_changed, after_clear, look_or_end, look_goes_on, hang_look_next, hang_next, hangs_on, onward_of, leaves_on, unblocks_or_tells}
 use Rattle.kc_machine_traces.specs.kc_machine.Machine.{Opening, pool_size}
-use Rattle.kc_machine_traces.specs.kc_machine.Seats.{answer_of, answer_by, after, begun, begun_idle, is_idle, working, halted, halted_by, ended}
+use Rattle.kc_machine_traces.specs.kc_machine.Seats.{seat_answered, answer_by, seat_after, begun, begun_idle, is_idle, working, halted, halted_by, seat_halted}
 use Rattle.kc_machine_traces.specs.kc_machine.Seats.{hanging as hanging_of}
 use Rattle.kc_machine_traces.specs.kc_machine_commits.Commits.{own_next, stage_next, tells_or_goes, fill_or_start, fill_next, after_own_pass, onward_or_back, aid_or_back, finished, wake_or_drop, wake_or_signal, wake_next, owed_next, copy_by_own, copy_by, loaded, gone_on, onward_by, after_scan, take_next}
 use Rattle.kc_machine_traces.specs.kc_machine_commits.Halts.{halted_pass, halted_aid_pass, halted_own, unowned, halted_at}
@@ -70,14 +70,14 @@ use Rattle.kc_machine_traces.specs.kc_machine_invariants.Made.{IntentIsMade}
 use Rattle.kc_machine_traces.specs.kc_machine_invariants.Seated.{StageSearches, WorkSearches}
 use Rattle.kc_machine_traces.specs.kc_machine_steps.declared.task.Told.TheVariants as told
 use Rattle.kc_machine_traces.specs.kc_machine_steps.Swaps.{may_swap, exchange_next, swap_next_at, swaps_on, ends_at_once}
-use Rattle.kc_machine_traces.specs.kc_machine_steps.Swaps.{owed_next as owed_by_swap}
-use Rattle.kc_machine_traces.specs.kc_machine_steps.Swaps.{onward_of as onward_of_swap}
+use Rattle.kc_machine_traces.specs.kc_machine_steps.Swaps.{swap_owed_next as owed_by_swap}
+use Rattle.kc_machine_traces.specs.kc_machine_steps.Swaps.{onward_of_swap}
 use Rattle.kc_machine_traces.specs.kc_machine_steps.declared.swap.Swap.{Swap}
 use Rattle.kc_machine_traces.specs.kc_machine_steps.declared.swap.SwapNext.{SwapNext}
 use Rattle.kc_machine_traces.specs.kc_machine_steps.declared.swap.SwapNext.TheVariants as swapping
 use Rattle.kc_machine_traces.specs.kc_machine_steps.declared.swap.SwapStep.{SwapStep}
 use Rattle.kc_machine_traces.specs.kc_machine_steps.declared.swap.SwapStep.TheVariants as swap
-use Rattle.kc_machine_traces.specs.kc_machine_steps.Aids.{aid_copy, copy_owner, copy_line, aid_next, hold_next, owner_or_first, status_next, first_next, second_next, load_next, owner_next, load_first_next, load_second_next, after_pass, drop_or_release, leave_next}
+use Rattle.kc_machine_traces.specs.kc_machine_steps.Aids.{aid_copy, copy_owner, copy_line, aid_next, aid_hold_next, owner_or_first, aid_status_next, aid_first_next, aid_second_next, aid_load_next, owner_next, load_first_next, load_second_next, after_pass, drop_or_release, leave_next}
 use Rattle.kc_machine_traces.specs.kc_machine_steps.Passes.{check_or_decide, from_check, install_or_check, from_install, release_or_finish, from_release, fits, refers_to, install_found, check_found, check_hold_next, crossed_or_first, check_status_next, agrees_or_fails, check_first_found, check_drop_next, decided_as, decide_next, pass_next}
 
 if_in : {A : Type 0} (P : A → Type 0) (b : Bool) (x y : A) → P x → P y → P (if b then x else y)
@@ -182,7 +182,7 @@ module _ (o : Opening) where
   AidNextIn a (aiding.Goes step) = AidIn o a step
   AidNextIn a (aiding.Back onward) = OnwardIn o onward
 
-  loads_in : (a : Aided) → AidIn o a (load_next a)
+  loads_in : (a : Aided) → AidIn o a (aid_load_next a)
   loads_in a = go (nat_lt (length a.lines.items) a.owner.lines)
     where
       go : (b : Bool) → AidIn o a (if b then aid.LoadFirst else aid.Pass (from_install a.owner.mode a.lines.items 0))
@@ -195,11 +195,11 @@ module _ (o : Opening) where
   after_pass_in a (pass.Finished p) y = tt
   after_pass_in a pass.Left y = tt
 
-  aid_held_in : (r : Reference) (a : Aided) (f : Found) → AidIn o a (hold_next r f)
+  aid_held_in : (r : Reference) (a : Aided) (f : Found) → AidIn o a (aid_hold_next r f)
   aid_held_in r a (found.Control c) = if_in (AidIn o a) (c.generation == r.handle.generation) aid.Status (aid.Drop true None) tt tt
   aid_held_in r a _ = tt
 
-  aid_status_in : (a : Aided) (f : Found) → AidIn o a (status_next f)
+  aid_status_in : (a : Aided) (f : Found) → AidIn o a (aid_status_next f)
   aid_status_in a (found.Status s) = go s.phase
     where
       go : (p : Phase) → AidIn o a (owner_or_first p)
@@ -210,11 +210,11 @@ module _ (o : Opening) where
       go Halted = tt
   aid_status_in a _ = tt
 
-  aid_first_in : (a : Aided) (p : Phase) (f : Found) → FoundIn o f → AidIn o a (first_next p f)
+  aid_first_in : (a : Aided) (p : Phase) (f : Found) → FoundIn o f → AidIn o a (aid_first_next p f)
   aid_first_in a p (found.First x) i = i
   aid_first_in a p _ i = tt
 
-  aid_second_in : (a : Aided) (p : Phase) (x : First) (f : Found) → FoundIn o f → FirstIn x → AidIn o a (second_next p x f)
+  aid_second_in : (a : Aided) (p : Phase) (x : First) (f : Found) → FoundIn o f → FirstIn x → AidIn o a (aid_second_next p x f)
   aid_second_in a p x (found.Second s) i y = (i, y)
   aid_second_in a p x _ i y = y
 
@@ -261,7 +261,7 @@ module _ (o : Opening) where
   owner_copied a _ i y = y
 
   line_copied : (a : Aided) (x : First) (f : Found) → FirstIn x → FoundIn o f → CopyIn o a → CopyIn o (copy_line a x f)
-  line_copied a x (found.Second s) v i y = if_in (CopyIn o) (length a.lines.items == MOST) a (record a { lines = record { items = a.lines.items ++ joined x s ∷ [] } }) y (All-push (LineIn o) a.lines.items (joined x s) y.0 (i, v), y.1)
+  line_copied a x (found.Second s) v i y = if_in (CopyIn o) (length a.lines.items == MOST) a (record a { lines = record { items = a.lines.items ++ line_of_halves x s ∷ [] } }) y (All-push (LineIn o) a.lines.items (line_of_halves x s) y.0 (i, v), y.1)
   line_copied a x _ v i y = y
 
   aid_copied : (a : Aided) (step : AidStep) (f : Found) → FoundIn o f → AidIn o a step → CopyIn o a → CopyIn o (aid_copy a step f)
@@ -434,7 +434,7 @@ module _ (o : Opening) where
     looks_on_in k v (looking.Goes step) y = y
     looks_on_in k v (looking.Saw seen) y = if_in HangNextIn (seen.version == v) _ (hanging.Goes (hang.Clear 0 k)) (ends_in (after_line k) (slice_get reads (after_line k))) tt
 
-    looks_in : (k : ℕ) (step : LookStep) (f : Found) (x : Option Seen) → FoundIn o f → LookIn o step → HangNextIn (look_of reads k step f x)
+    looks_in : (k : ℕ) (step : LookStep) (f : Found) (x : Option Seen) → FoundIn o f → LookIn o step → HangNextIn (hang_look_next reads k step f x)
     looks_in k step f None i y = y
     looks_in k step f (Some x) i y = looks_on_in k x.version _ (look_in x.loc step f i y)
 
@@ -470,31 +470,31 @@ module _ (o : Opening) where
   SeatIn s = WorkIn o s.work
 
   module _ (s : Seat) where
-    look_answers : (l : Look) (b : Bool) (n : LookNext) → LookNextIn n → SeatIn (after (record s { work = work.Look (looks_on l n) }) (told_by b n))
+    look_answers : (l : Look) (b : Bool) (n : LookNext) → LookNextIn n → SeatIn (seat_after (record s { work = work.Look (looks_on l n) }) (told_by b n))
     look_answers l true n y = tt
     look_answers l false (looking.Goes step) y = y
     look_answers l false (looking.Saw seen) y = tt
 
     commit_answers : (c : Commit) (few : length c.intent.lines.items ≤ MOST) (copies : IsCopy c.copy) (f : Found) (n : Next) → CopyIn o (copy_by c.copy c.stage f) → NextIn c few copies (copy_by c.copy c.stage f) n
-        → SeatIn (after (record s { work = work.Commit (gone_on (loaded c f) n) }) (onward_by n))
+        → SeatIn (seat_after (record s { work = work.Commit (gone_on (loaded c f) n) }) (onward_by n))
     commit_answers c few copies f (next.Goes x) z y = (z, y)
     commit_answers c few copies f (next.Takes x) z y = (z, y)
     commit_answers c few copies f (next.Tells t) z y = tt
 
-    hang_answers : (h : Hang) (n : HangNext) → HangNextIn h.reads.items n → SeatIn (after (record s { work = work.Hang (hangs_on h n) }) (onward_of n))
+    hang_answers : (h : Hang) (n : HangNext) → HangNextIn h.reads.items n → SeatIn (seat_after (record s { work = work.Hang (hangs_on h n) }) (onward_of n))
     hang_answers h (hanging.Goes step) y = y
     hang_answers h (hanging.Tells t) y = tt
 
-    leave_answers : (l : Leave) (j : ℕ) (x : Option Seen) → SeatIn (after (record s { work = work.Leave (leaves_on l j x) }) (unblocks_or_tells x))
+    leave_answers : (l : Leave) (j : ℕ) (x : Option Seen) → SeatIn (seat_after (record s { work = work.Leave (leaves_on l j x) }) (unblocks_or_tells x))
     leave_answers l j None = tt
     leave_answers l j (Some x) = tt
 
-    swap_answers : (x : Swap) (n : SwapNext) → SwapNextIn n → SeatIn (after (record s { work = work.Swap (swaps_on x n) }) (onward_of_swap n))
+    swap_answers : (x : Swap) (n : SwapNext) → SwapNextIn n → SeatIn (seat_after (record s { work = work.Swap (swaps_on x n) }) (onward_of_swap n))
     swap_answers x (swapping.Goes step) y = y
     swap_answers x (swapping.Takes step) y = y
     swap_answers x (swapping.Tells t) y = tt
 
-    pub answer_in : (f : Found) → WorkFits s.work → WorkIsFormed s.calls s.blocked s.work → IntentIsMade o.locations s.work → WorkSearches (pool_size o.callers) s.work → FoundIn o f → SeatIn s → SeatIn (answer_of s f)
+    pub answer_in : (f : Found) → WorkFits s.work → WorkIsFormed s.calls s.blocked s.work → IntentIsMade o.locations s.work → WorkSearches (pool_size o.callers) s.work → FoundIn o f → SeatIn s → SeatIn (seat_answered s f)
     answer_in f fits formed made searches i y = go s.work fits formed made searches y
       where
         go : (x : Work) → WorkFits x → WorkIsFormed s.calls s.blocked x → IntentIsMade o.locations x → WorkSearches (pool_size o.callers) x → WorkIn o x → SeatIn (answer_by s f x)
@@ -515,7 +515,7 @@ module _ (o : Opening) where
     pub begun_in : (t : Task) → SeatIn s → SeatIn (begun s t)
     begun_in t y = if_in SeatIn (is_idle s.work) (begun_idle s t) s (begins_in t y) y
 
-    look_halts : (l : Look) (step : LookStep) → LookIn o step → SeatIn (if halts_at_once step then ended s else record s { work = work.Look (look_halted_at l step) })
+    look_halts : (l : Look) (step : LookStep) → LookIn o step → SeatIn (if halts_at_once step then seat_halted s else record s { work = work.Look (look_halted_at l step) })
     look_halts l look.Load y = tt
     look_halts l (look.Hold r) y = tt
     look_halts l (look.Status r) y = y
@@ -562,7 +562,7 @@ module _ (o : Opening) where
     own_halts a (own.Signal n) y = y
     own_halts a (own.Drop p) y = tt
 
-    commit_halts : (c : Commit) (x : Stage) → CopyIn o c.copy → StageIn o c.copy x → SeatIn (if unowned x then ended s else record s { work = work.Commit (halted_at c x) })
+    commit_halts : (c : Commit) (x : Stage) → CopyIn o c.copy → StageIn o c.copy x → SeatIn (if unowned x then seat_halted s else record s { work = work.Commit (halted_at c x) })
     commit_halts c (Scan d n) z y = tt
     commit_halts c (Take d g) z y = tt
     commit_halts c (Own h step) z y = (z, (y.0, own_halts c.copy step y.1))
@@ -576,4 +576,4 @@ module _ (o : Opening) where
         go (work.Commit c) z = commit_halts c c.stage z.0 z.1
         go (work.Hang h) z = y
         go (work.Leave l) z = y
-        go (work.Swap x) z = if_in SeatIn (ends_at_once x.step) (ended s) s tt y
+        go (work.Swap x) z = if_in SeatIn (ends_at_once x.step) (seat_halted s) s tt y

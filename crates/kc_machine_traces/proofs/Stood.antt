@@ -16,7 +16,7 @@ use Rattle.kc_machine_invariants.specs.kc_machine.Waits.{Hang}
 use Rattle.kc_machine_invariants.specs.kc_machine.declared.hang.HangStep.{HangStep}
 use Rattle.kc_machine_invariants.specs.kc_machine.declared.hang.HangStep.TheVariants as hang
 use Rattle.kc_machine_invariants.specs.kc_machine.declared.seat.Seat.{Seat}
-use Rattle.kc_machine_invariants.specs.Stands.{Stand, Waits, stand, works, resting, commits, owns, aids, hangs}
+use Rattle.kc_machine_invariants.specs.Stands.{Stand, Waits, stand, works, resting, stand_commits, owns, stand_aids, stand_hangs}
 
 abbrev SameCall : Stand → Stand → Type 0
 SameCall t s = (t.caller ≡ s.caller) × (t.calls ≡ s.calls)
@@ -24,7 +24,7 @@ SameCall t s = (t.caller ≡ s.caller) × (t.calls ≡ s.calls)
 pub same_call : (s : Seat) → ((stand s).caller ≡ s.caller) × ((stand s).calls ≡ s.calls)
 same_call s = go s.work
   where
-    aided : (t : Stand) (r : Reference) (c : Aided) (a : AidStep) → SameCall (aids t r c a) t
+    aided : (t : Stand) (r : Reference) (c : Aided) (a : AidStep) → SameCall (stand_aids t r c a) t
     aided t r c aid.Hold = (refl, refl)
     aided t r c aid.Status = (refl, refl)
     aided t r c (aid.First p) = (refl, refl)
@@ -49,12 +49,12 @@ same_call s = go s.work
     owned t c h (own.Signal owed) = (refl, refl)
     owned t c h (own.Drop p) = (refl, refl)
 
-    staged : (t : Stand) (c : Commit) (x : Stage) → SameCall (commits t c.intent c.copy x) t
+    staged : (t : Stand) (c : Commit) (x : Stage) → SameCall (stand_commits t c.intent c.copy x) t
     staged t c (Scan d worn) = (refl, refl)
     staged t c (Take d g) = (refl, refl)
     staged t c (Own h step) = owned t c h step
 
-    hung : (t : Stand) (h : Hang) (step : HangStep) → SameCall (hangs t h.reads.items step) t
+    hung : (t : Stand) (h : Hang) (step : HangStep) → SameCall (stand_hangs t h.reads.items step) t
     hung t h (hang.Set j) = (refl, refl)
     hung t h (hang.Look j step) = (refl, refl)
     hung t h (hang.Clear j n) = (refl, refl)

@@ -4,8 +4,8 @@ use Rattle.std.proofs.lemmas.Bool.{ltb-true}
 use Rattle.std.specs.Prelude.{nat_lt}
 use borrow.Author.Tests.{eq-eqb}
 use Rattle.kc_machine_invariants.proofs.kc_machine.Functions.{put_here}
-use Rattle.kc_machine_invariants.specs.kc_machine.Machine.{State, event_of, happened, possible, put, seat_of, found_at, touched, stepped}
-use Rattle.kc_machine_invariants.specs.kc_machine.Seats.{access_of, work_access, answer_of, answer_by, begun, begun_idle, halted, halted_by, is_idle}
+use Rattle.kc_machine_invariants.specs.kc_machine.Machine.{State, event_of, happened, possible, put_at_index, seat_of, found_at, touched, stepped}
+use Rattle.kc_machine_invariants.specs.kc_machine.Seats.{access_of, work_access, seat_answered, answer_by, begun, begun_idle, halted, halted_by, is_idle}
 use Rattle.kc_machine_invariants.specs.kc_machine.Words.{word_is}
 use Rattle.kc_machine_invariants.specs.kc_machine.Works as work
 use Rattle.kc_machine_invariants.specs.kc_machine.Works.{Work}
@@ -17,7 +17,7 @@ use Rattle.kc_machine_traces.specs.Traces.{history_by_swap, swap_entry}
 use Rattle.kc_machine_invariants.proofs.Left.{commit_unswapped}
 use Rattle.kc_machine_invariants.proofs.Tests.{plain_same}
 use Rattle.kc_machine_invariants.specs.Changes.{with_word}
-use Rattle.kc_machine_invariants.specs.Stands.{Swapping, NoSwap, Swaps, NoPass, NoOwn, stand, works, resting, hangs}
+use Rattle.kc_machine_invariants.specs.Stands.{Swapping, NoSwap, Swaps, NoPass, NoOwn, stand, works, resting, stand_hangs}
 use Rattle.kc_machine_invariants.specs.kc_machine_steps.Lines.{one_more}
 use Rattle.kc_machine_invariants.specs.kc_machine_steps.Swaps.{may_swap, seen_word, word_after}
 use Rattle.kc_machine_invariants.specs.kc_machine_steps.declared.swap.SwapStep.{SwapStep}
@@ -43,7 +43,7 @@ swap_of _ = NoSwap
 pub stand_swap : (s : Seat) → (stand s).swap ≡ swap_of s.work
 stand_swap s = go s.work
   where
-    hung : (reads : _) (step : HangStep) → (hangs (resting s) reads step).swap ≡ NoSwap
+    hung : (reads : _) (step : HangStep) → (stand_hangs (resting s) reads step).swap ≡ NoSwap
     hung reads (hang.Set k) = refl
     hung reads (hang.Look k step) = refl
     hung reads (hang.Clear k n) = refl
@@ -107,7 +107,7 @@ module _ (m : State) (k : ℕ) (r : Seen) (after : ℕ) (q : (m.seats k).work �
   abbrev answer : Word → Seat
   answer v = answer_by s (found.Word v) (swap_at r after swap.Exchange)
 
-  answers : answer_of s (found_at m.world (access_of s)) ≡ answer (m.world.word r.loc.0)
+  answers : seat_answered s (found_at m.world (access_of s)) ≡ answer (m.world.word r.loc.0)
   answers = ap (λ w. answer_by s (found_at m.world (work_access s.caller s.calls w)) w) q
 
   record Took (v : Word) : Type 0 where
@@ -144,13 +144,13 @@ module _ (m : State) (k : ℕ) (r : Seen) (after : ℕ) (q : (m.seats k).work �
   step_takes clock x y l is e = go (possible m (access_of s)) refl e
     where
       go : (b : Bool) → possible m (access_of s) ≡ b
-          → (stand ((if b then record m { world = touched m.world (access_of s); seats = put m.seats k (answer_of s (found_at m.world (access_of s))) } else m).seats k)).swap ≡ Swaps x y swap.Wake
+          → (stand ((if b then record m { world = touched m.world (access_of s); seats = put_at_index m.seats k (seat_answered s (found_at m.world (access_of s))) } else m).seats k)).swap ≡ Swaps x y swap.Wake
           → SwapOf m (Step k) clock (entered clock)
       go false p e = absurd (unmoved x y e)
       go true p e =
-          let here = put_here m.seats k (answer_of s (found_at m.world (access_of s))) ∙ answers in
+          let here = put_here m.seats k (seat_answered s (found_at m.world (access_of s))) ∙ answers in
           let t = took (m.world.word r.loc.0) x y (ap (λ (z : Seat). (stand z).swap) (sym here) ∙ e) in
-          let stepped_to : stepped m k ≡ record m { world = touched m.world (access_of s); seats = put m.seats k (answer_of s (found_at m.world (access_of s))) } = rw p refl in
+          let stepped_to : stepped m k ≡ record m { world = touched m.world (access_of s); seats = put_at_index m.seats k (seat_answered s (found_at m.world (access_of s))) } = rw p refl in
           let next = answers ∙ t.next in
           record {
             seen = r;
@@ -161,7 +161,7 @@ module _ (m : State) (k : ℕ) (r : Seen) (after : ℕ) (q : (m.seats k).work �
             works = q;
             was = t.was;
             low = ltb-true s.calls MOST_SWAPS t.low;
-            goes = is ∙ stepped_to ∙ (λ i. record m { world = touched_by t i; seats = put m.seats k (next i) });
+            goes = is ∙ stepped_to ∙ (λ i. record m { world = touched_by t i; seats = put_at_index m.seats k (next i) });
             is = refl;
           }
 
@@ -244,14 +244,14 @@ swap_cases P m e clock h same more = go (takes (stand (m.seats (seat_of e))).swa
 
 -- a step that finds what was seen swaps it
 pub exchanging : (m : State) (k : ℕ) (r : Seen) (after : ℕ) → (m.seats k).work ≡ swap_at r after swap.Exchange → m.world.word r.loc.0 ≡ seen_word r → may_swap (m.seats k).calls ≡ true
-    → takes (stand (m.seats k)).swap (stand (answer_of (m.seats k) (found_at m.world (access_of (m.seats k))))).swap ≡ true
+    → takes (stand (m.seats k)).swap (stand (seat_answered (m.seats k) (found_at m.world (access_of (m.seats k))))).swap ≡ true
 exchanging m k r after q was low =
     let s = m.seats k in
     let same : word_is (seen_word r) (seen_word r) ≡ true = word_itself r in
     let next : answer m k r after q (seen_word r) ≡ swapped s r after = rw same (rw low refl) in
-    let behind : answer_of s (found_at m.world (access_of s)) ≡ swapped s r after = answers m k r after q ∙ ap (answer m k r after q) was ∙ next in
+    let behind : seat_answered s (found_at m.world (access_of s)) ≡ swapped s r after = answers m k r after q ∙ ap (answer m k r after q) was ∙ next in
     let from : (stand s).swap ≡ Swaps r after swap.Exchange = stand_swap s ∙ ap swap_of q in
-    let to : (stand (answer_of s (found_at m.world (access_of s)))).swap ≡ Swaps r after swap.Wake = ap (λ (x : Seat). (stand x).swap) behind in
+    let to : (stand (seat_answered s (found_at m.world (access_of s)))).swap ≡ Swaps r after swap.Wake = ap (λ (x : Seat). (stand x).swap) behind in
     λ i. takes (from i) (to i)
   where
     word_itself : (r : Seen) → word_is (seen_word r) (seen_word r) ≡ true

@@ -13,7 +13,7 @@ use Rattle.kc_machine_traces.specs.kc_machine_steps.declared.aid.AidNext.TheVari
 use Rattle.kc_machine_traces.specs.kc_machine.Machine.{World}
 use Rattle.kc_machine_traces.specs.kc_machine_commits.declared.commit.OwnStep.{OwnStep}
 use Rattle.kc_machine_traces.proofs.kc_machine_invariants.Held.{Fits}
-use Rattle.kc_machine_traces.specs.kc_machine_invariants.Holds.{Proper, Has, held, own_hold, aid_hold}
+use Rattle.kc_machine_traces.specs.kc_machine_invariants.Holds.{Proper, HasHold, held, own_hold, aid_hold}
 use Rattle.kc_machine_traces.specs.kc_machine_invariants.Stands.{Stand, Own, NoOwn, Owns, Runs, Waits, Aiding, NoAid, Aids, Passes}
 use Rattle.kc_machine_traces.specs.Lines.{IsLastLife}
 use Rattle.kc_machine_traces.proofs.kc_machine_invariants.Filled.{task_held}
@@ -24,7 +24,7 @@ use Rattle.kc_machine_traces.specs.kc_machine_invariants.Filled.{task, Stored}
 use Rattle.kc_machine_traces.specs.kc_machine_invariants.Owners.{is_filling, Follows}
 use Rattle.kc_machine_traces.specs.kc_machine_invariants.References.{met_by_aid}
 use Rattle.kc_machine_traces.specs.kc_machine_invariants.Started.{listed, line_of_words}
-use Rattle.kc_machine_traces.specs.kc_machine_steps.Lines.{joined, first_of}
+use Rattle.kc_machine_traces.specs.kc_machine_steps.Lines.{line_of_halves, first_of}
 use Rattle.kc_machine_traces.proofs.Copies.{Copies}
 use Rattle.kc_machine_traces.proofs.Whole.{Bound}
 use Rattle.kc_machine_traces.specs.Copies.{CopyIsTrue, LoadedOf}
@@ -83,7 +83,7 @@ module _ (n m : ℕ) (w : World) (at : ℕ → Stand) (c : Copies n m w at) (j :
         line = λ k x q.
             let a = f.1 h i k x t q (stored_works _ (at j).own y) in
             let b = f.2 h i k x t q (stored_works _ (at j).own y) in
-            ap (λ z. joined z (w.second h.descriptor k)) a ∙ ap (joined (first_of x)) b ∙ line_again x;
+            ap (λ z. line_of_halves z (w.second h.descriptor k)) a ∙ ap (line_of_halves (first_of x)) b ∙ line_again x;
       }
 
   -- an aid holds the last life of what it aids
@@ -111,7 +111,7 @@ module _ (n m : ℕ) (w : World) (at : ℕ → Stand) (c : Copies n m w at) (j :
   -- what the seat's pass goes over, and that the seat holds it
   pub record Course (h : Handle) (mode : Mode) (xs : List Line) : Type 0 where
     pub target : Target w h mode xs
-    pub held : Has (at j) (Proper h.descriptor h.generation)
+    pub held : HasHold (at j) (Proper h.descriptor h.generation)
 
   pub course : (h : Handle) (mode : Mode) (xs : List Line) → goes_over (at j).pass ≡ Some (h, mode, xs) → Course h mode xs
   course h mode xs over = go (at j).own (at j).aid refl refl (sym over ∙ (p.shape j l).0)

@@ -15,10 +15,10 @@ use Rattle.kc_machine_invariants.specs.Effects
 use Rattle.kc_machine_invariants.specs.Effects.{Effect}
 use Rattle.kc_machine_invariants.specs.Stands.{Stand, Aiding, NoAid, Aids, Passes}
 use Rattle.kc_machine_invariants.specs.kc_machine_steps.Aids.{copy_line}
-use Rattle.kc_machine_invariants.specs.kc_machine_steps.Lines.{joined}
+use Rattle.kc_machine_invariants.specs.kc_machine_steps.Lines.{line_of_halves}
 use Rattle.kc_machine_invariants.specs.kc_machine_steps.declared.pass.PassStep.{PassStep}
 use Rattle.kc_machine_invariants.specs.kc_machine_steps.declared.pass.PassStep.TheVariants.{Install, Check, CheckHold, CheckStatus, CheckFirst, CheckDrop, Decide, Release}
-use Rattle.kc_machine_traces.specs.Copies.{IsWhole}
+use Rattle.kc_machine_traces.specs.Copies.{AidIsWhole}
 use Rattle.kc_model.specs.declared.footprint.TheConstants.{MOST}
 
 abbrev HasAll : Aided → Type 0
@@ -41,9 +41,9 @@ Bound (Passes r c) = HasAll c
 one_line_more : (c : Aided) (f : First) (x : Second) → length c.lines.items < c.owner.lines → StepBound (copy_line c f (found.Second x)) aid.LoadFirst
 one_line_more c f x l = go (length c.lines.items == MOST)
   where
-    go : (b : Bool) → StepBound (if b then c else record c { lines = record { items = c.lines.items ++ joined f x ∷ [] } }) aid.LoadFirst
+    go : (b : Bool) → StepBound (if b then c else record c { lines = record { items = c.lines.items ++ line_of_halves f x ∷ [] } }) aid.LoadFirst
     go true = omega arith
-    go false = let n = length-append c.lines.items (joined f x ∷ []) in omega arith
+    go false = let n = length-append c.lines.items (line_of_halves f x ∷ []) in omega arith
 
 halted_bound : (c : Aided) (a b : AidStep) → halted_aid a ≡ Some b → StepBound c a → StepBound c b
 halted_bound c a b q h = go a q h
@@ -84,7 +84,7 @@ bound_own k (Effects.aid_left s a) h = tt
 bound_own k (Effects.halt_aid s {c = c} {a = a} b y q z) h = halted_bound c a b q h
 bound_own k e h = h
 
-pub bound_whole : (x : Aiding) → Bound x → IsWhole x
+pub bound_whole : (x : Aiding) → Bound x → AidIsWhole x
 bound_whole NoAid h = tt
 bound_whole (Aids r c n) h = tt
 bound_whole (Passes r c) h = h

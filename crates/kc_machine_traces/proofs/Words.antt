@@ -19,7 +19,7 @@ use Rattle.kc_machine_traces.specs.kc_machine_words.declared.access.Access.TheVa
 use Rattle.kc_machine_traces.specs.kc_machine_words.declared.access.Found.{Found}
 use Rattle.kc_machine_traces.specs.kc_machine_words.declared.access.Found.TheVariants as found
 use Rattle.kc_machine_traces.proofs.kc_machine.Functions.{put_cases}
-use Rattle.kc_machine_traces.specs.kc_machine.Machine.{World, Opening, put, put_some, put_line, found_at, touched, opened}
+use Rattle.kc_machine_traces.specs.kc_machine.Machine.{World, Opening, put_at_index, put_some, put_at_line, found_at, touched, opened_state}
 use Rattle.kc_machine_traces.specs.kc_machine.Schedules.{IsInRange}
 use Rattle.kc_machine_traces.specs.kc_machine.Words.{word_is, status_is, stored_word, stored_status, stored_owner, stored_first, stored_second, bit_of, bits_after}
 use Rattle.kc_machine_traces.specs.Ranges.{WordIn, CallersIn, StatusIn, OwnerIn, FirstIn, SecondIn, StoredIn, WorldIn, TouchIn, BitsIn, AccessIn}
@@ -32,9 +32,9 @@ some_stays : {A : Type 0} (P : A → Type 0) (f : ℕ → A) (i : ℕ) (x : Opti
 some_stays P f i None y g = g
 some_stays P f i (Some x) y g = λ j. put_cases P f i x j (λ q. y) (λ ne. g j)
 
-line_stays : {A : Type 0} (P : A → Type 0) (f : ℕ → ℕ → A) (d i : ℕ) (x : Option A) → Stores P x → ((e j : ℕ) → P (f e j)) → (e j : ℕ) → P (put_line f d i x e j)
+line_stays : {A : Type 0} (P : A → Type 0) (f : ℕ → ℕ → A) (d i : ℕ) (x : Option A) → Stores P x → ((e j : ℕ) → P (f e j)) → (e j : ℕ) → P (put_at_line f d i x e j)
 line_stays P f d i None y g = g
-line_stays P f d i (Some x) y g = λ e. put_cases (λ h. (j : ℕ) → P (h j)) f d (put (f d) i x) e (λ q j. put_cases P (f d) i x j (λ p. y) (λ ne. g d j)) (λ ne. g e)
+line_stays P f d i (Some x) y g = λ e. put_cases (λ h. (j : ℕ) → P (h j)) f d (put_at_index (f d) i x) e (λ q j. put_cases P (f d) i x j (λ p. y) (λ ne. g d j)) (λ ne. g e)
 
 either : {A : Type 0} (P : A → Type 0) (b : Bool) (x : A) → P x → Stores P (if b then Some x else None)
 either P true x y = y
@@ -114,7 +114,7 @@ found_in o w (access.Second d k t) f = f.seconds d k
 found_in o w (access.Awaiters l b) f = f.awaiters l.0
 found_in o w (access.Signal c s) f = tt
 
-pub opened_in : (o : Opening) → IsInRange o → WorldIn o (opened o).world
+pub opened_in : (o : Opening) → IsInRange o → WorldIn o (opened_state o).world
 opened_in o r = record {
   words = r.versions;
   awaiters = λ l. pow_pos o.callers;

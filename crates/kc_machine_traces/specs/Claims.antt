@@ -33,7 +33,7 @@ use Rattle.kc_machine_invariants.specs.kc_machine_commits.declared.commit.OwnSte
 use Rattle.kc_machine_invariants.specs.kc_machine.Machine.{World, State, Opening, event_of, run}
 use Rattle.kc_machine_invariants.specs.kc_machine.Seats.{access_of, is_idle}
 use Rattle.kc_machine_invariants.specs.kc_machine.Words.{bit_of}
-use Rattle.kc_machine_traces.specs.Histories.{History, Placed, ending, cell_of, IsLegalHistory, IsLegalWhereInstalled, EntriesDiffer, Grows}
+use Rattle.kc_machine_traces.specs.Histories.{History, Placed, ending_store, seen_as_cell, IsLegalHistory, IsLegalWhereInstalled, EntriesDiffer, Grows}
 use Rattle.kc_machine_traces.specs.Traces.{trace, first_store, swap_entry, IsHonest}
 use Rattle.kc_machine_invariants.specs.kc_machine_steps.declared.swap.SwapStep.TheVariants as swap
 use Rattle.kc_machine_invariants.specs.Holds.{Proper, own_hold}
@@ -48,11 +48,11 @@ history_at o schedule n = (trace o (take n schedule)).history
 
 -- at some moment behind event n the history made what was seen
 abbrev pub StoodSince : Opening → List Event → ℕ → Seen → Type 0
-StoodSince o schedule n r = (i : ℕ) × (n < i) × (i ≤ length schedule) × (ending (first_store o) (history_at o schedule i) r.loc.0 ≡ cell_of r)
+StoodSince o schedule n r = (i : ℕ) × (n < i) × (i ≤ length schedule) × (ending_store (first_store o) (history_at o schedule i) r.loc.0 ≡ seen_as_cell r)
 
 -- likewise for a read's version
 abbrev pub VersionStoodSince : Opening → List Event → ℕ → Seen → Type 0
-VersionStoodSince o schedule n r = (i : ℕ) × (n < i) × (i ≤ length schedule) × ((ending (first_store o) (history_at o schedule i) r.loc.0).version ≡ r.version)
+VersionStoodSince o schedule n r = (i : ℕ) × (n < i) × (i ≤ length schedule) × ((ending_store (first_store o) (history_at o schedule i) r.loc.0).version ≡ r.version)
 
 -- ---- the history is legal: each entry finds the reads that it installed; all of them, where the schedule is honest
 
@@ -72,7 +72,7 @@ stands_for w (Ref g d i) = record {
 }
 
 abbrev pub WordsResolve : Opening → List Event → Type 0
-WordsResolve o schedule = (l : ℕ) → l < o.locations → stands_for (run o schedule).world ((run o schedule).world.word l) ≡ ending (first_store o) (trace o schedule).history l
+WordsResolve o schedule = (l : ℕ) → l < o.locations → stands_for (run o schedule).world ((run o schedule).world.word l) ≡ ending_store (first_store o) (trace o schedule).history l
 
 -- ---- a look is told what stood at its location since it began
 
@@ -219,7 +219,7 @@ abbrev pub WakeIsToCome : State → Seen → Type 0
 WakeIsToCome m r = OwnerWakes m r ⊎ SwapWakes m r
 
 abbrev pub StandsAt : Opening → List Event → Seen → Type 0
-StandsAt o schedule r = (ending (first_store o) (trace o schedule).history r.loc.0).version ≡ r.version
+StandsAt o schedule r = (ending_store (first_store o) (trace o schedule).history r.loc.0).version ≡ r.version
 
 abbrev pub IsCovered : Opening → List Event → ℕ → Seen → Type 0
 IsCovered o schedule c r = (has_bit ((run o schedule).world.awaiters r.loc.0) c ≡ true) × (StandsAt o schedule r ⊎ WakeIsToCome (run o schedule) r)

@@ -1,6 +1,6 @@
 -- What an aid has loaded of the descriptor that it aids.
 use Rattle.std.specs.Prelude.{◌≡◌, ◌<◌, ℕ, length}
-use Rattle.kc_machine_invariants.specs.kc_machine_steps.Lines.{joined}
+use Rattle.kc_machine_invariants.specs.kc_machine_steps.Lines.{line_of_halves}
 use Rattle.kc_machine_invariants.specs.kc_machine_steps.declared.aid.AidStep.{AidStep}
 use Rattle.kc_machine_invariants.specs.kc_machine_steps.declared.aid.Aided.{Aided}
 use Rattle.kc_machine_invariants.specs.kc_machine_words.declared.words.First.{First}
@@ -16,7 +16,7 @@ use Rattle.kc_machine_invariants.specs.Started.{listed}
 -- the owner word of a descriptor, and its first lines
 pub record HasLoaded (o : Owner) (f : ℕ → First) (s : ℕ → Second) (c : Aided) : Type 0 where
   pub owner : c.owner ≡ o
-  pub lines : c.lines.items ≡ listed (λ i. joined (f i) (s i)) (length c.lines.items)
+  pub lines : c.lines.items ≡ listed (λ i. line_of_halves (f i) (s i)) (length c.lines.items)
 
 -- words of all descriptors
 abbrev pub LoadedOf : (ℕ → Owner) → (ℕ → ℕ → First) → (ℕ → ℕ → Second) → Reference → Aided → Type 0
@@ -46,9 +46,9 @@ abbrev pub CopiesAreTrue : State → Type 0
 CopiesAreTrue m = (k : ℕ) → k < m.callers → CopyIsTrue m.world (stand (m.seats k)).aid
 
 -- in its pass an aid has as many lines as the owner word says
-abbrev pub IsWhole : Aiding → Type 0
-IsWhole (Passes r c) = length c.lines.items ≡ c.owner.lines
-IsWhole _ = Unit {0}
+abbrev pub AidIsWhole : Aiding → Type 0
+AidIsWhole (Passes r c) = length c.lines.items ≡ c.owner.lines
+AidIsWhole _ = Unit {0}
 
 abbrev pub PassesAreWhole : State → Type 0
-PassesAreWhole m = (k : ℕ) → IsWhole (stand (m.seats k)).aid
+PassesAreWhole m = (k : ℕ) → AidIsWhole (stand (m.seats k)).aid

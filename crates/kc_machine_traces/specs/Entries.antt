@@ -7,8 +7,8 @@ use Rattle.kc_machine_invariants.specs.Stands.{Own, NoOwn, Owns, Runs, Waits}
 use Rattle.kc_machine_invariants.specs.kc_machine_steps.declared.line.Intent.{Intent}
 
 -- those of caller k, in order
-abbrev pub by : ℕ → History → History
-by k h = filter (λ x. x.entry.caller == k) h
+abbrev pub placed_by : ℕ → History → History
+placed_by k h = filter (λ x. x.entry.caller == k) h
 
 abbrev pub AreOfCallers : ℕ → History → Type 0
 AreOfCallers callers h = All (λ x. x.entry.caller < callers) h

@@ -42,29 +42,29 @@ footprint_of xs = record { reads = record { items = map (λ x. x.seen) xs }; put
 
 -- ---- the stores that a history makes
 
-abbrev pub cell_of : Seen → Cell
-cell_of r = record { version = r.version; value = r.value }
+abbrev pub seen_as_cell : Seen → Cell
+seen_as_cell r = record { version = r.version; value = r.value }
 
 abbrev pub made : Store → List Entry → Store
 made s [] = s
 made s (x ∷ xs) = made (after x.footprint s) xs
 
-abbrev pub ending : Store → History → Store
-ending s h = made s (entries h)
+abbrev pub ending_store : Store → History → Store
+ending_store s h = made s (entries h)
 
 -- what the entries with a lower place make
 abbrev pub at_place : Store → History → ℕ → Store
-at_place s h p = ending s (filter (λ x. nat_lt x.place p) h)
+at_place s h p = ending_store s (filter (λ x. nat_lt x.place p) h)
 
 -- some front of the history makes what was read
 abbrev pub IsKnown : Store → History → Seen → Type 0
-IsKnown s h r = (n : ℕ) × (ending s (take n h) r.loc.0 ≡ cell_of r)
+IsKnown s h r = (n : ℕ) × (ending_store s (take n h) r.loc.0 ≡ seen_as_cell r)
 
 -- ---- legal histories
 
 -- applied in order, each entry finds its reads
 abbrev pub IsLegalHistory : Store → History → Type 0
-IsLegalHistory s h = IsLegal s (entries h) (ending s h)
+IsLegalHistory s h = IsLegal s (entries h) (ending_store s h)
 
 -- likewise location by location: each entry finds its reads in what the entries with lower places make
 abbrev pub EachFindsItsReads : Store → History → Type 0
@@ -79,7 +79,7 @@ installs All f l = true
 installs Light f l = is_some (put_at f.puts.items l)
 
 abbrev pub FindsInstalled : Placed → Store → Type 0
-FindsInstalled x s = (r : Seen) → Reads x.entry.footprint r → installs x.mode x.entry.footprint r.loc.0 ≡ true → s r.loc.0 ≡ cell_of r
+FindsInstalled x s = (r : Seen) → Reads x.entry.footprint r → installs x.mode x.entry.footprint r.loc.0 ≡ true → s r.loc.0 ≡ seen_as_cell r
 
 -- applied in order, each entry finds the reads that it installed
 abbrev pub IsLegalWhereInstalled : Store → History → Type 0

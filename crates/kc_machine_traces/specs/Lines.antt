@@ -2,7 +2,7 @@
 use Rattle.std.specs.Prelude.{◌≡◌, ◌<◌, ℕ, true}
 use Rattle.kc_machine_traces.specs.kc_machine.Machine.{World, State}
 use Rattle.kc_machine_traces.specs.kc_machine_invariants.Stands.{stand}
-use Rattle.kc_machine_traces.specs.kc_machine_invariants.References.{Remembers}
+use Rattle.kc_machine_traces.specs.kc_machine_invariants.References.{RemembersReference}
 use Rattle.kc_machine_traces.specs.kc_machine_invariants.Started.{line_of_words}
 use Rattle.kc_machine_traces.specs.kc_machine_steps.Lines.{is_installed}
 use Rattle.kc_machine_traces.specs.kc_machine_words.declared.words.Reference.{Reference}
@@ -23,5 +23,5 @@ ReferencesFitTheirLines m = (l g d k : ℕ) → m.world.word l ≡ Ref g d k →
 
 -- a reference that a seat remembers names an installed line, where its descriptor still has that generation
 abbrev pub MetLinesExist : State → Type 0
-MetLinesExist m = (j : ℕ) (r : Reference) → j < m.callers → Remembers (stand (m.seats j)) r
+MetLinesExist m = (j : ℕ) (r : Reference) → j < m.callers → RemembersReference (stand (m.seats j)) r
     → (m.world.control r.handle.descriptor).generation ≡ r.handle.generation → IsInstalledLine m.world r.handle.descriptor r.line

@@ -3,7 +3,7 @@ use Rattle.std.specs.Prelude.{◌≡◌, ◌<◌, ℕ, List, true, Some, slice_g
 use Rattle.kc_machine_traces.specs.kc_machine.Machine.{World, State}
 use Rattle.kc_machine_traces.specs.kc_machine_invariants.Stands.{Turn, At, Meets, Ends, Leaves, Passing, NoPass, Over, Own, NoOwn, Owns, Runs, Waits, stand}
 use Rattle.kc_machine_traces.specs.Lines.{IsInstalledLine}
-use Rattle.kc_machine_traces.specs.kc_machine_steps.Lines.{is_installed, word_of}
+use Rattle.kc_machine_traces.specs.kc_machine_steps.Lines.{is_installed, reference_word}
 use Rattle.kc_machine_traces.specs.kc_machine_steps.Passes.{status}
 use Rattle.kc_model.specs.declared.footprint.Line.{Line}
 use Rattle.kc_machine_traces.specs.kc_machine_steps.declared.pass.PassStep.{PassStep}
@@ -41,7 +41,7 @@ IsActive w h = w.status h.descriptor ≡ status h.generation Active
 
 -- while h is Active, each line below n that is installed stands in its word
 abbrev pub InstalledBelow : World → Handle → Mode → List Line → ℕ → Type 0
-InstalledBelow w h mode xs n = IsActive w h → (k : ℕ) (x : Line) → k < n → slice_get xs k ≡ Some x → is_installed mode x ≡ true → w.word x.seen.loc.0 ≡ word_of h k
+InstalledBelow w h mode xs n = IsActive w h → (k : ℕ) (x : Line) → k < n → slice_get xs k ≡ Some x → is_installed mode x ≡ true → w.word x.seen.loc.0 ≡ reference_word h k
 
 abbrev pub PassedAreInstalled : World → Passing → Type 0
 PassedAreInstalled w NoPass = Unit {0}

@@ -1,7 +1,7 @@
 -- A seat that isn't idle makes its next step.
 use Rattle.std.specs.Prelude.{◌≡◌, ◌<◌, ◌++◌, ◌∷◌, ℕ, List, [], true, false}
-use Rattle.kc_machine_traces.specs.kc_machine.Machine.{State, Opening, put, touched, found_at, possible, run}
-use Rattle.kc_machine_traces.specs.kc_machine.Seats.{access_of, answer_of, is_idle}
+use Rattle.kc_machine_traces.specs.kc_machine.Machine.{State, Opening, put_at_index, touched, found_at, possible, run}
+use Rattle.kc_machine_traces.specs.kc_machine.Seats.{access_of, seat_answered, is_idle}
 use Rattle.kc_machine_traces.specs.Ranges.{AccessIn}
 use Rattle.kc_machine_traces.specs.kc_machine_steps.declared.task.Event.{Event}
 use Rattle.kc_machine_traces.specs.kc_machine_steps.declared.task.Event.TheVariants.{Step}
@@ -12,7 +12,7 @@ StepsArePossible o m = (k : ℕ) → k < o.callers → is_idle (m.seats k).work 
 
 -- seat k has made its access and its answer
 abbrev pub one_step : State → ℕ → State
-one_step m k = record m { world = touched m.world (access_of (m.seats k)); seats = put m.seats k (answer_of (m.seats k) (found_at m.world (access_of (m.seats k)))) }
+one_step m k = record m { world = touched m.world (access_of (m.seats k)); seats = put_at_index m.seats k (seat_answered (m.seats k) (found_at m.world (access_of (m.seats k)))) }
 
 -- an event of a seat that isn't idle is exactly one step
 abbrev pub StepsHappen : Opening → List Event → Type 0

@@ -1,6 +1,6 @@
 -- The event by which a seat swaps a location's word.
 use Rattle.std.specs.Prelude.{◌≡◌, ◌<◌, ℕ, Bool, true, false}
-use Rattle.kc_machine_invariants.specs.kc_machine.Machine.{State, event_of, put, seat_of}
+use Rattle.kc_machine_invariants.specs.kc_machine.Machine.{State, event_of, put_at_index, seat_of}
 use Rattle.kc_machine_invariants.specs.kc_machine.Works as work
 use Rattle.kc_machine_invariants.specs.kc_machine.Works.{Work}
 use Rattle.kc_machine_invariants.specs.kc_machine.declared.seat.Seat.{Seat}
@@ -35,7 +35,7 @@ pub record SwapOf (m : State) (e : Event) (clock : ℕ) (x : Placed) : Type 0 wh
   pub works : (m.seats (seat_of e)).work ≡ swap_at seen after swap.Exchange
   pub was : m.world.word seen.loc.0 ≡ seen_word seen
   pub low : (m.seats (seat_of e)).calls < MOST_SWAPS
-  pub goes : event_of m e ≡ record m { world = with_word m.world seen.loc.0 (word_after seen after); seats = put m.seats (seat_of e) (swapped (m.seats (seat_of e)) seen after) }
+  pub goes : event_of m e ≡ record m { world = with_word m.world seen.loc.0 (word_after seen after); seats = put_at_index m.seats (seat_of e) (swapped (m.seats (seat_of e)) seen after) }
   pub is : x ≡ record { place = clock; mode = All; entry = swap_entry (m.seats (seat_of e)).caller (one_more (m.seats (seat_of e)).calls) seen after }
 
 abbrev pub takes : Swapping → Swapping → Bool

@@ -12,7 +12,7 @@ use Rattle.kc_model.specs.Store.{Store}
 use Rattle.kc_model.specs.declared.footprint.Entry.{Entry}
 use Rattle.kc_model.specs.declared.footprint.Seen.{Seen}
 use Rattle.kc_machine_invariants.specs.kc_machine_steps.declared.task.Task.TheVariants as task
-use Rattle.kc_machine_invariants.specs.kc_machine.Machine.{World, State, Opening, put, event_of, seat_of, opened}
+use Rattle.kc_machine_invariants.specs.kc_machine.Machine.{World, State, Opening, put_at_index, event_of, seat_of, opened_state}
 use Rattle.kc_machine_invariants.specs.kc_machine.Seats.{is_idle}
 use Rattle.kc_machine_invariants.specs.kc_machine.Words.{phase_is}
 use Rattle.kc_machine_invariants.specs.kc_machine.declared.seat.Seat.{Seat}
@@ -126,16 +126,16 @@ abbrev pub listens : Waiting → Waiting → Bool
 listens (Hangs reads step) (HangLooks same k) = true
 listens _ _ = false
 
-abbrev pub reads_of : Waiting → List Seen
-reads_of NoWait = []
-reads_of (Hangs reads step) = reads
-reads_of (HangLooks reads k) = reads
-reads_of (Leaving reads step) = reads
+abbrev pub waiting_reads : Waiting → List Seen
+waiting_reads NoWait = []
+waiting_reads (Hangs reads step) = reads
+waiting_reads (HangLooks reads k) = reads
+waiting_reads (Leaving reads step) = reads
 
 abbrev pub blocking_after : Bool → Bool → Waiting → List Seen → List Seen
 blocking_after was false wait reads = []
 blocking_after true true wait reads = reads
-blocking_after false true wait reads = reads_of wait
+blocking_after false true wait reads = waiting_reads wait
 
 -- ---- one event
 
@@ -170,7 +170,7 @@ traced t e =
       clock = t.clock + 1;
       history = history_by_swap t.clock s.caller (m.seats k).calls (stand s).swap (stand (m.seats k)).swap
           (history_after (now t) t.machine.world m.world (stand s) x.place (stand s).pass);
-      shadows = put t.shadows k (shadow_after (now t) e s (m.seats k) x);
+      shadows = put_at_index t.shadows k (shadow_after (now t) e s (m.seats k) x);
     }
 
 -- ---- a schedule
@@ -180,7 +180,7 @@ first_moment = record { clock = 0; history = [] }
 
 abbrev pub opened_trace : Opening → Trace
 opened_trace o = record {
-  machine = opened o;
+  machine = opened_state o;
   clock = 0;
   history = [];
   shadows = λ k. record { task = None; begun = first_moment; listening = first_moment; place = None; blocking = [] };

@@ -8,12 +8,12 @@ ghost use Rattle.kc_machine_invariants.specs.kc_machine_steps.declared.task.Even
 ghost use Rattle.kc_machine_invariants.specs.kc_machine_steps.declared.task.Event.TheVariants.{Begin, Step};
 ghost use Rattle.kc_machine_invariants.specs.kc_machine.Machine.{Opening, run, run_from, possible, touched, found_at};
 ghost use Rattle.kc_machine_invariants.specs.kc_machine.Schedules.{BeginsWellMade, IsSchedule};
-ghost use Rattle.kc_machine_invariants.specs.kc_machine.Seats.{access_of, answer_of, begun, is_idle};
+ghost use Rattle.kc_machine_invariants.specs.kc_machine.Seats.{access_of, seat_answered, begun, is_idle};
 ghost use Rattle.kc_machine_traces.specs.Claims.{HistoriesGrow};
-ghost use Rattle.kc_machine_traces.specs.Histories.{History, Grows, IsKnown, ending};
+ghost use Rattle.kc_machine_traces.specs.Histories.{History, Grows, IsKnown, ending_store};
 ghost use Rattle.kc_machine_traces.specs.Traces.{trace, trace_from, first_store, IsHonest};
 ghost use Rattle.kc_machine_traces.specs.Copies.{CopiesAreTrue, PassesAreWhole};
-ghost use Rattle.kc_machine_traces.specs.Entries.{by, AreOfCallers, NumbersFit};
+ghost use Rattle.kc_machine_traces.specs.Entries.{placed_by, AreOfCallers, NumbersFit};
 ghost use Rattle.kc_machine_traces.specs.Moments.{AnswersWhenDone, BeginsNothing, IsMomentOf};
 ghost use Rattle.kc_machine_traces.specs.Outcomes.{GainsAsTold};
 ghost use Rattle.kc_machine_traces.specs.Parts.{NoneOf, GoesOnHonestly, IsNoStep};
@@ -41,7 +41,7 @@ pub fn a_step_is_one_access()
     ensures world { (o : Opening) (es : List Event) (k : ℕ) → k < o.callers → possible (run o es) (access_of ((run o es).seats k)) ≡ true
         → (run o (es ++ Step k ∷ [])).world ≡ touched (run o es).world (access_of ((run o es).seats k)) }
     ensures seat { (o : Opening) (es : List Event) (k : ℕ) → k < o.callers → possible (run o es) (access_of ((run o es).seats k)) ≡ true
-        → (run o (es ++ Step k ∷ [])).seats k ≡ answer_of ((run o es).seats k) (found_at (run o es).world (access_of ((run o es).seats k))) }
+        → (run o (es ++ Step k ∷ [])).seats k ≡ seat_answered ((run o es).seats k) (found_at (run o es).world (access_of ((run o es).seats k))) }
     ensures idle { (o : Opening) (es : List Event) (k : ℕ) → possible (run o es) (access_of ((run o es).seats k)) ≡ false → run o (es ++ Step k ∷ []) ≡ run o es }
     ensures words_stay { (o : Opening) (es more : List Event) → All IsNoStep more → (run o (es ++ more)).world ≡ (run o es).world }
     ensures history_stays { (o : Opening) (es more : List Event) → All IsNoStep more → (trace o (es ++ more)).history ≡ (trace o es).history }
@@ -76,7 +76,7 @@ pub fn entries_are_of_callers()
 
 /// While a seat is idle, the entries of its caller stay as they are.
 pub fn idle_seats_gain_no_entry()
-    ensures { (o : Opening) (es more : List Event) (k : ℕ) → is_idle ((run o es).seats k).work ≡ true → NoneOf k more → by k (trace o (es ++ more)).history ≡ by k (trace o es).history }
+    ensures { (o : Opening) (es more : List Event) (k : ℕ) → is_idle ((run o es).seats k).work ≡ true → NoneOf k more → placed_by k (trace o (es ++ more)).history ≡ placed_by k (trace o es).history }
 {}
 
 /// Over a whole task of a seat, its caller's entries grow by that of its commit and its call where it was told Succeeded, and
@@ -84,14 +84,14 @@ pub fn idle_seats_gain_no_entry()
 pub fn entries_are_as_told()
     ensures { (o : Opening) (es more : List Event) (k : ℕ) (t : Task) → k < o.callers → is_idle ((run o es).seats k).work ≡ true → is_idle (begun ((run o es).seats k) t).work ≡ false → BeginsNothing k more
         → is_idle ((run o (es ++ Begin k t ∷ more)).seats k).work ≡ true
-        → GainsAsTold k t ((run o (es ++ Begin k t ∷ more)).seats k).told (by k (trace o es).history) (by k (trace o (es ++ Begin k t ∷ more)).history) }
+        → GainsAsTold k t ((run o (es ++ Begin k t ∷ more)).seats k).told (placed_by k (trace o es).history) (placed_by k (trace o (es ++ Begin k t ∷ more)).history) }
 {}
 
 /// What is known to a history stays known as it grows, and no version falls; so also as a schedule goes on, where its
 /// histories grow, which is a premise here.
 pub fn known_stays()
     ensures known { (s : Store) (a b : History) (r : Seen) → Grows a b → IsKnown s a r → IsKnown s b r }
-    ensures versions { (s : Store) (a b : History) (l : ℕ) → Grows a b → (ending s a l).version ≤ (ending s b l).version }
+    ensures versions { (s : Store) (a b : History) (l : ℕ) → Grows a b → (ending_store s a l).version ≤ (ending_store s b l).version }
     ensures known_on { (o : Opening) (es more : List Event) → HistoriesGrow o (es ++ more) → (r : Seen) → IsKnown (first_store o) (trace o es).history r → IsKnown (first_store o) (trace o (es ++ more)).history r }
-    ensures versions_on { (o : Opening) (es more : List Event) → HistoriesGrow o (es ++ more) → (l : ℕ) → (ending (first_store o) (trace o es).history l).version ≤ (ending (first_store o) (trace o (es ++ more)).history l).version }
+    ensures versions_on { (o : Opening) (es more : List Event) → HistoriesGrow o (es ++ more) → (l : ℕ) → (ending_store (first_store o) (trace o es).history l).version ≤ (ending_store (first_store o) (trace o (es ++ more)).history l).version }
 {}

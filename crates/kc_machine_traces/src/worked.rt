@@ -5,29 +5,29 @@ ghost use Rattle.kc_machine_invariants.specs.kc_machine_steps.declared.task.Told
 ghost use Rattle.kc_machine_invariants.specs.kc_machine_steps.Passes.{status};
 ghost use Rattle.kc_machine_invariants.specs.kc_machine_words.declared.words.Phase.TheVariants.{Succeeded};
 ghost use Rattle.kc_machine_invariants.specs.kc_machine.Machine.{run};
-ghost use Rattle.kc_machine_traces.specs.Histories.{ending, IsLegalHistory};
+ghost use Rattle.kc_machine_traces.specs.Histories.{ending_store, IsLegalHistory};
 ghost use Rattle.kc_machine_traces.specs.Traces.{trace, first_store, IsHonest};
 ghost use Rattle.kc_machine_traces.specs.Claims.{stands_for, HasPut, OwnerHolds, SomeoneReleases, IsCovered, WakeIsToCome, alone, comparing};
-ghost use Rattle.kc_machine_traces.specs.Worked.{seen, change, placed, two, installed, decided, overtaken, helped, waited, guessed, started, swapped};
+ghost use Rattle.kc_machine_traces.specs.Worked.{seen, change, worked_placed, two, installed, decided, overtaken, helped, waited, guessed, started, worked_swapped};
 
 /// An entry stands at the place of its pass, here the seventh event, once the eighth decides; from then on the reference
 /// in its word stands for the new value.
 pub fn a_commit_by_hand()
     ensures open { (trace two installed).history ≡ [] }
-    ensures made { (trace two decided).history ≡ placed 7 0 (change 0 0 5 7) ∷ [] }
+    ensures made { (trace two decided).history ≡ worked_placed 7 0 (change 0 0 5 7) ∷ [] }
     ensures before { stands_for (run two installed).world ((run two installed).world.word 0) ≡ record { version = 0; value = 5 } }
     ensures after { stands_for (run two decided).world ((run two decided).world.word 0) ≡ record { version = 1; value = 7 } }
-    ensures ends { ending (first_store two) (trace two decided).history 0 ≡ record { version = 1; value = 7 } }
+    ensures ends { ending_store (first_store two) (trace two decided).history 0 ≡ record { version = 1; value = 7 } }
 {}
 
 /// An entry that is decided later may stand before one that was decided earlier.
 pub fn an_entry_stands_at_its_place()
-    ensures history { (trace two overtaken).history ≡ placed 7 0 (change 0 0 5 7) ∷ placed 15 1 (change 1 0 6 8) ∷ [] }
+    ensures history { (trace two overtaken).history ≡ worked_placed 7 0 (change 0 0 5 7) ∷ worked_placed 15 1 (change 1 0 6 8) ∷ [] }
 {}
 
 /// A pass that aids decides for the owner, at the place of the pass; the aider then fails, since the owner put.
 pub fn a_helped_commit_is_its_owners()
-    ensures history { (trace two helped).history ≡ placed 21 0 (change 0 0 5 7) ∷ [] }
+    ensures history { (trace two helped).history ≡ worked_placed 21 0 (change 0 0 5 7) ∷ [] }
     ensures told { ((run two helped).seats 1).told ≡ Some (told.Failed 0) }
     ensures cause { HasPut (trace two helped).history (seen 0 0 5) }
 {}
@@ -56,11 +56,11 @@ pub fn a_wait_by_hand()
 /// A swap that finds what it saw enters the history as a commit of one put, at its own event, here the fifth; its wake is
 /// then to come. One that finds another value enters nothing.
 pub fn a_swap_by_hand()
-    ensures made { (trace two (swapped 5)).history ≡ placed 4 0 (change 0 0 5 7) ∷ [] }
-    ensures stands { stands_for (run two (swapped 5)).world ((run two (swapped 5)).world.word 0) ≡ record { version = 1; value = 7 } }
-    ensures to_come { WakeIsToCome (run two (swapped 5)) (seen 0 0 5) }
-    ensures missed { (trace two (swapped 6)).history ≡ [] }
-    ensures told { ((run two (swapped 6)).seats 0).told ≡ Some (told.Failed 0) }
+    ensures made { (trace two (worked_swapped 5)).history ≡ worked_placed 4 0 (change 0 0 5 7) ∷ [] }
+    ensures stands { stands_for (run two (worked_swapped 5)).world ((run two (worked_swapped 5)).world.word 0) ≡ record { version = 1; value = 7 } }
+    ensures to_come { WakeIsToCome (run two (worked_swapped 5)) (seen 0 0 5) }
+    ensures missed { (trace two (worked_swapped 6)).history ≡ [] }
+    ensures told { ((run two (worked_swapped 6)).seats 0).told ≡ Some (told.Failed 0) }
 {}
 
 /// One put alone costs two compare-exchanges from the start to the decision.

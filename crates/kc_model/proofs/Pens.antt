@@ -5,7 +5,7 @@ use Rattle.std.specs.List.{flat_map}
 use Rattle.std.specs.Prelude.{Result, Ok, Err, OnOk, OnErr}
 use Rattle.kc_model.proofs.Writes.{took_none, took_then, front_longer, front_after}
 use Rattle.kc_model.specs.Outside.{Took, TookFront}
-use Rattle.kc_model.specs.Pen.{Sheet, sheet, Hands, Asks, Owes, Puts, Prints}
+use Rattle.kc_model.specs.Pen.{Sheet, sheet, Hands, Asks, SheetOwes, PenPuts, Prints}
 use Rattle.kc_model.specs.declared.outside.Failed.{Failed}
 use Rattle.kc_model.specs.declared.pen.Pen.{Pen}
 
@@ -53,11 +53,11 @@ module _ {K : Type 0} {written : K → Option (List ℕ)} {faults : K → ℕ} {
   -- ---- what is still to be asked, for a loop
 
   -- nothing was asked yet
-  pub owes_all : (a : Sheet K) (all : List ℕ) → Owes written faults gives a a all all
+  pub owes_all : (a : Sheet K) (all : List ℕ) → SheetOwes written faults gives a a all all
   owes_all a all = record { done = []; asked = asks_none a; parts = refl }
 
   -- a first piece of the rest was asked
-  pub owes_then : {a b c : Sheet K} {xs rest all : List ℕ} → Asks written faults gives b c xs → Owes written faults gives a b (xs ++ rest) all → Owes written faults gives a c rest all
+  pub owes_then : {a b c : Sheet K} {xs rest all : List ℕ} → Asks written faults gives b c xs → SheetOwes written faults gives a b (xs ++ rest) all → SheetOwes written faults gives a c rest all
   owes_then {a} {b} {c} {xs} {rest} {all} q p = record {
     done = p.done ++ xs;
     asked = asks_then p.asked q;
@@ -65,25 +65,25 @@ module _ {K : Type 0} {written : K → Option (List ℕ)} {faults : K → ℕ} {
   }
 
   -- nothing is left
-  pub owes_none : {a b : Sheet K} {all : List ℕ} → Owes written faults gives a b [] all → Asks written faults gives a b all
+  pub owes_none : {a b : Sheet K} {all : List ℕ} → SheetOwes written faults gives a b [] all → Asks written faults gives a b all
   owes_none {a} {b} {all} p = subst (Asks written faults gives a b) (sym (append-nil p.done) ∙ p.parts) p.asked
 
   -- the piece of one more element was asked
-  pub owes_next : {X : Type 0} {a b c : Sheet K} {all : List ℕ} (f : X → List ℕ) (xs : List X) (i : ℕ) (d : X) → i < length xs → Asks written faults gives b c (f (get_or xs i d)) → Owes written faults gives a b (flat_map f (drop i xs)) all → Owes written faults gives a c (flat_map f (drop (i + 1) xs)) all
+  pub owes_next : {X : Type 0} {a b c : Sheet K} {all : List ℕ} (f : X → List ℕ) (xs : List X) (i : ℕ) (d : X) → i < length xs → Asks written faults gives b c (f (get_or xs i d)) → SheetOwes written faults gives a b (flat_map f (drop i xs)) all → SheetOwes written faults gives a c (flat_map f (drop (i + 1) xs)) all
   owes_next {X} {a} {b} {c} {all} f xs i d lt q p = owes_then {rest = flat_map f (drop (i + 1) xs)} q (rw (drop_more xs i d lt) at p)
 
   -- the pieces of all elements were asked
-  pub owes_last : {X : Type 0} {a b : Sheet K} {all : List ℕ} (f : X → List ℕ) (xs : List X) (i : ℕ) → length xs ≤ i → Owes written faults gives a b (flat_map f (drop i xs)) all → Asks written faults gives a b all
+  pub owes_last : {X : Type 0} {a b : Sheet K} {all : List ℕ} (f : X → List ℕ) (xs : List X) (i : ℕ) → length xs ≤ i → SheetOwes written faults gives a b (flat_map f (drop i xs)) all → Asks written faults gives a b all
   owes_last f xs i le p = owes_none (rw (drop_all i xs le) at p)
 
   -- ---- the same of pens
 
   -- some bytes were put and then others
-  pub puts_then : {p q r : Pen K} {xs ys : List ℕ} → Puts written faults gives p q xs → Puts written faults gives q r ys → Puts written faults gives p r (xs ++ ys)
+  pub puts_then : {p q r : Pen K} {xs ys : List ℕ} → PenPuts written faults gives p q xs → PenPuts written faults gives q r ys → PenPuts written faults gives p r (xs ++ ys)
   puts_then p q = record { same_sink = q.same_sink ∙ p.same_sink; asks = asks_then p.asks q.asks }
 
   -- nothing was put
-  pub puts_none : (p : Pen K) → Puts written faults gives p p []
+  pub puts_none : (p : Pen K) → PenPuts written faults gives p p []
   puts_none p = record { same_sink = refl; asks = asks_none (sheet p) }
 
   -- ---- a call with a pen of its own
@@ -97,6 +97,6 @@ module _ {K : Type 0} {written : K → Option (List ℕ)} {faults : K → ℕ} {
   prints (Err e) start new text q ok err = record { whole = tt; front = q.fails refl err }
 
   -- a pen was made for a sink, put the text, and ended
-  pub prints_sink : {T : Type 0} {start end : K} {first mid last : Pen K} {result : Result T Failed} {text : List ℕ} → sheet first ≡ record { sink = start; held = []; failed = false } → Puts written faults gives first mid text → Puts written faults gives mid last [] → OnOk result ((last.failed ≡ false) × (last.page.items ≡ [])) → OnErr result (last.failed ≡ true) → end ≡ last.sink.now → Prints written faults gives start end result text
+  pub prints_sink : {T : Type 0} {start end : K} {first mid last : Pen K} {result : Result T Failed} {text : List ℕ} → sheet first ≡ record { sink = start; held = []; failed = false } → PenPuts written faults gives first mid text → PenPuts written faults gives mid last [] → OnOk result ((last.failed ≡ false) × (last.page.items ≡ [])) → OnErr result (last.failed ≡ true) → end ≡ last.sink.now → Prints written faults gives start end result text
   prints_sink {T} {start} {end} {first} {mid} {last} {result} {text} fresh puts ends ok err same =
       rw same (prints result start (sheet last) text (subst (λ (a : Sheet K). Asks written faults gives a (sheet last) text) fresh (subst (Asks written faults gives (sheet first) (sheet last)) (append-nil text) (asks_then puts.asks ends.asks))) ok err)

@@ -59,7 +59,7 @@ pub data Gave {S : Type 0} (gives : S → List ℕ → Result ℕ Failed → Lis
 
 module _ {S : Type 0} (left : S → Option (List ℕ)) (faults : S → ℕ) (gives : S → List ℕ → Result ℕ Failed → List ℕ → S → Type 0) where
   -- the bytes came, and no call failed
-  pub record Came (x : S) (bytes : List ℕ) (y : S) : Type 0 where
+  pub record BytesCame (x : S) (bytes : List ℕ) (y : S) : Type 0 where
     pub gave : Gave gives x bytes y
     pub told : left x ≡ ahead bytes (left y)
     pub faultless : faults y ≡ faults x
@@ -86,25 +86,25 @@ module _ {S : Type 0} (left : S → Option (List ℕ)) (faults : S → ℕ) (giv
   -- all came that was left: these bytes, and then the end
   pub record CameWhole (x : S) (bytes : List ℕ) (z : S) : Type 0 where
     pub last : S
-    pub came : Came x bytes last
+    pub came : BytesCame x bytes last
     pub end : ReadsEnd last z
 
   -- one byte more than the limit came
   pub record CamePast (limit : ℕ) (x y : S) : Type 0 where
     pub bytes : List ℕ
     pub count : length bytes ≡ limit + 1
-    pub came : Came x bytes y
+    pub came : BytesCame x bytes y
 
   -- some bytes came, at most one more than the limit
   pub record CameSome (limit : ℕ) (x y : S) : Type 0 where
     pub bytes : List ℕ
     pub count : length bytes ≤ limit + 1
-    pub came : Came x bytes y
+    pub came : BytesCame x bytes y
 
   -- some bytes came, within the limit; then a call failed, and it was the last
   pub record CameFront (limit : ℕ) (x z : S) : Type 0 where
     pub bytes : List ℕ
     pub count : length bytes ≤ limit
     pub last : S
-    pub came : Came x bytes last
+    pub came : BytesCame x bytes last
     pub fails : ReadFails last z

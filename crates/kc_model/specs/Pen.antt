@@ -27,13 +27,13 @@ module _ {K : Type 0} (written : K → Option (List ℕ)) (faults : K → ℕ) (
     pub fails : old.failed ≡ false → new.failed ≡ true → TookFront written faults gives old.sink (old.held ++ bytes) new.sink
 
   -- all but the rest was asked
-  pub record Owes (old new : Sheet K) (rest all : List ℕ) : Type 0 where
+  pub record SheetOwes (old new : Sheet K) (rest all : List ℕ) : Type 0 where
     pub done : List ℕ
     pub asked : Asks old new done
     pub parts : done ++ rest ≡ all
 
   -- the pen, which writes to the same sink, was asked for the bytes
-  pub record Puts (old new : Pen K) (bytes : List ℕ) : Type 0 where
+  pub record PenPuts (old new : Pen K) (bytes : List ℕ) : Type 0 where
     pub same_sink : new.sink.ghost_name ≡ old.sink.ghost_name
     pub asks : Asks (sheet old) (sheet new) bytes
 

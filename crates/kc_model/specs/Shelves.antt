@@ -19,9 +19,9 @@ abbrev pub file_of : List (List ℕ × List ℕ) → List ℕ → Option (List �
 file_of files name = lookup (bytes_eq name) files
 
 -- what a call answered, by bytes
-abbrev pub answer_of : Result (Vec ℕ) ShelfError → Result (List ℕ) ShelfError
-answer_of (Ok v) = Ok v.items
-answer_of (Err e) = Err e
+abbrev pub shelf_answer : Result (Vec ℕ) ShelfError → Result (List ℕ) ShelfError
+shelf_answer (Ok v) = Ok v.items
+shelf_answer (Err e) = Err e
 
 -- the file has these bytes, all of them, where the files are told
 abbrev pub Has : Option (List (List ℕ × List ℕ)) → List ℕ → List ℕ → Type 0
@@ -43,14 +43,14 @@ HasEach told [] (bytes ∷ rest) = ⊥
 HasEach told (name ∷ names) [] = ⊥
 
 -- calls of fetch, each of which gave a file: by these names, and these files in all
-pub data Gives {F : Type 0} (gives : F → List ℕ → ℕ → Result (List ℕ) ShelfError → F → Type 0) (limit : ℕ) : F → List (List ℕ) → List (List ℕ) → F → Type 0 where
-  no_call : {x : F} → Gives gives limit x [] [] x
-  call : {x y z : F} {names files : List (List ℕ)} (name bytes : List ℕ) → Gives gives limit x names files y → gives y name limit (Ok bytes) z → Gives gives limit x (names ++ name ∷ []) (files ++ bytes ∷ []) z
+pub data GivesFiles {F : Type 0} (gives : F → List ℕ → ℕ → Result (List ℕ) ShelfError → F → Type 0) (limit : ℕ) : F → List (List ℕ) → List (List ℕ) → F → Type 0 where
+  no_call : {x : F} → GivesFiles gives limit x [] [] x
+  call : {x y z : F} {names files : List (List ℕ)} (name bytes : List ℕ) → GivesFiles gives limit x names files y → gives y name limit (Ok bytes) z → GivesFiles gives limit x (names ++ name ∷ []) (files ++ bytes ∷ []) z
 
 module _ {F : Type 0} (told : F → Option (List (List ℕ × List ℕ))) (faults : F → ℕ) (sure : F → Bool) (gives : F → List ℕ → ℕ → Result (List ℕ) ShelfError → F → Type 0) (limit : ℕ) where
   -- the names were fetched one after another, by one call each, and no call failed: these are their files, whole
   pub record Fetched (x : F) (names files : List (List ℕ)) (y : F) : Type 0 where
-    pub calls : Gives gives limit x names files y
+    pub calls : GivesFiles gives limit x names files y
     pub has : HasEach (told x) names files
     pub within : All (λ (bytes : List ℕ). length bytes ≤ limit) files
     pub kept : told y ≡ told x

@@ -5,7 +5,7 @@ ghost use Rattle.kc_model.specs.declared.outside.Failed.{Failed as Fault};
 ghost use Rattle.kc_model.specs.declared.outside.ShelfError.{ShelfError as Fetching};
 ghost use Rattle.kc_model.specs.declared.outside.ShelfError.TheVariants as shelf;
 ghost use Rattle.kc_model.specs.Outside.{ahead, behind, IsSpent, Rises};
-ghost use Rattle.kc_model.specs.Shelves.{answer_of, Has, IsLonger, Lacks};
+ghost use Rattle.kc_model.specs.Shelves.{shelf_answer, Has, IsLonger, Lacks};
 
 use std::alloc::{AllocError, AllocFailed, Global};
 
@@ -101,7 +101,7 @@ pub trait Shelf {
 
     /// Fetches a whole file, if it has no more bytes than the limit.
     fn fetch(&mut self, alloc: Global, name: &str, limit: usize) -> Result<Vec<u8>, ShelfError>
-        ensures gives { fetch_gives self.old name.now limit (answer_of result) self.new }
+        ensures gives { fetch_gives self.old name.now limit (shelf_answer result) self.new }
         ensures within { IfOk result (λ bytes. vec_len bytes ≤ limit) }
         ensures whole { IfOk result (λ bytes. Has (files self.old) name.now bytes.items) }
         ensures too_long { IsErrOf result ShelfError.TooLong → IsLonger (files self.old) name.now limit }

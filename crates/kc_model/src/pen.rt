@@ -1,7 +1,7 @@
 //! Writing a text piece by piece.
 
 ghost use Rattle.std.specs.Prelude.{◌≡◌, ◌≤◌, ◌⊎◌, [], true, false, decimal, OnOk, OnErr};
-ghost use Rattle.kc_model.specs.Pen.{Puts, sheet};
+ghost use Rattle.kc_model.specs.Pen.{PenPuts, sheet};
 
 use crate::outside::{Failed, Sink};
 use crate::writing::write_all;
@@ -34,7 +34,7 @@ impl<'a, K: Sink> Pen<'a, K> {
 
     /// Writes the bytes.
     pub fn put(&mut self, bytes: &[u8])
-        ensures { Puts K.written K.faults K.write_gives self.old self.new bytes.now }
+        ensures { PenPuts K.written K.faults K.write_gives self.old self.new bytes.now }
     {
         if self.failed {
             return;
@@ -48,7 +48,7 @@ impl<'a, K: Sink> Pen<'a, K> {
 
     /// Writes the number in decimal digits.
     pub fn put_number(&mut self, n: u32)
-        ensures { Puts K.written K.faults K.write_gives self.old self.new (decimal n) }
+        ensures { PenPuts K.written K.faults K.write_gives self.old self.new (decimal n) }
     {
         let mut buffer = Buffer::new();
         self.put(buffer.format(n).as_bytes());
@@ -56,7 +56,7 @@ impl<'a, K: Sink> Pen<'a, K> {
 
     /// Hands on what is left, and says whether all was written.
     pub fn end(&mut self) -> Result<(), Failed>
-        ensures puts { Puts K.written K.faults K.write_gives self.old self.new [] }
+        ensures puts { PenPuts K.written K.faults K.write_gives self.old self.new [] }
         ensures ok { OnOk result ((self.new.failed ≡ false) × (self.new.page.items ≡ [])) }
         ensures err { OnErr result (self.new.failed ≡ true) }
     {
@@ -66,7 +66,7 @@ impl<'a, K: Sink> Pen<'a, K> {
 
     // Empties the page.
     fn hand_on(&mut self)
-        ensures puts { Puts K.written K.faults K.write_gives self.old self.new [] }
+        ensures puts { PenPuts K.written K.faults K.write_gives self.old self.new [] }
         ensures empty { (self.new.failed ≡ true) ⊎ (self.new.page.items ≡ []) }
     {
         if self.failed {
@@ -79,7 +79,7 @@ impl<'a, K: Sink> Pen<'a, K> {
     // Writes the bytes, which are the first of a page.
     fn put_first(&mut self, bytes: &[u8])
         requires { (self.old.failed ≡ true) ⊎ (self.old.page.items ≡ []) }
-        ensures { Puts K.written K.faults K.write_gives self.old self.new bytes.now }
+        ensures { PenPuts K.written K.faults K.write_gives self.old self.new bytes.now }
     {
         if self.failed {
             return;

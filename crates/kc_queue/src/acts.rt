@@ -2,7 +2,7 @@
 
 ghost use Rattle.std.specs.Prelude.{◌≡◌, ◌<◌, ◌≤◌};
 ghost use Rattle.kc_xt.specs.Steps.{Does};
-ghost use Rattle.kc_queue.specs.Meaning.{queue_program, deq_program, cells_end};
+ghost use Rattle.kc_queue.specs.Meaning.{queue_program, deq_program, queue_cells_end};
 
 use crate::layout::head_of;
 use crate::operation::QueueAct;
@@ -11,7 +11,7 @@ use kc_model::{Loc, Reply};
 use kc_xt::{Peek, Stop, Xt};
 
 pub(crate) fn enq<P: Peek>(queue: Queue, value: u32, xt: &mut Xt<P>) -> Result<Reply, Stop>
-    requires { cells_end queue ≤ P.locations xt.old.peek }
+    requires { queue_cells_end queue ≤ P.locations xt.old.peek }
     ensures goes { Does P.peek_gives (queue_program queue (QueueAct.Enq value)) xt.old result xt.new }
     ensures size { P.locations xt.new.peek ≡ P.locations xt.old.peek }
 {
@@ -28,7 +28,7 @@ pub(crate) fn enq<P: Peek>(queue: Queue, value: u32, xt: &mut Xt<P>) -> Result<R
 }
 
 pub(crate) fn deq<P: Peek>(queue: Queue, waits: bool, xt: &mut Xt<P>) -> Result<Reply, Stop>
-    requires { cells_end queue ≤ P.locations xt.old.peek }
+    requires { queue_cells_end queue ≤ P.locations xt.old.peek }
     ensures goes { Does P.peek_gives (deq_program queue waits) xt.old result xt.new }
     ensures size { P.locations xt.new.peek ≡ P.locations xt.old.peek }
 {
@@ -49,7 +49,7 @@ pub(crate) fn deq<P: Peek>(queue: Queue, waits: bool, xt: &mut Xt<P>) -> Result<
 }
 
 pub(crate) fn front<P: Peek>(queue: Queue, xt: &mut Xt<P>) -> Result<Reply, Stop>
-    requires { cells_end queue ≤ P.locations xt.old.peek }
+    requires { queue_cells_end queue ≤ P.locations xt.old.peek }
     ensures goes { Does P.peek_gives (queue_program queue QueueAct.Front) xt.old result xt.new }
     ensures size { P.locations xt.new.peek ≡ P.locations xt.old.peek }
 {
@@ -65,7 +65,7 @@ pub(crate) fn front<P: Peek>(queue: Queue, xt: &mut Xt<P>) -> Result<Reply, Stop
 }
 
 pub(crate) fn len<P: Peek>(queue: Queue, xt: &mut Xt<P>) -> Result<Reply, Stop>
-    requires { cells_end queue ≤ P.locations xt.old.peek }
+    requires { queue_cells_end queue ≤ P.locations xt.old.peek }
     ensures goes { Does P.peek_gives (queue_program queue QueueAct.Len) xt.old result xt.new }
     ensures size { P.locations xt.new.peek ≡ P.locations xt.old.peek }
 {

@@ -3,7 +3,7 @@
 ghost use Rattle.std.specs.Prelude.{◌≡◌, ◌+◌, ◌<◌, ◌≤◌, ℕ, List, length, slice_index};
 ghost use Rattle.kc_model.specs.Store.{store_of};
 ghost use Rattle.kc_xt.specs.Meaning.{values};
-ghost use Rattle.kc_queue.specs.Meaning.{queue_cells, queue_opening, cells_end, head_cell, count_cell, ring_cell, counted, head_in, back_of, StandsFor};
+ghost use Rattle.kc_queue.specs.Meaning.{queue_cells, queue_opening, queue_cells_end, queue_head_cell, queue_count_cell, ring_cell, queue_counted, queue_head_in, back_of, QueueStandsFor};
 
 use crate::queue::Queue;
 use kc_model::{Loc, MOST_LOCATIONS, PlainStore};
@@ -52,19 +52,19 @@ impl Queue {
 
     /// How many items it has in a store. A number of items above the capacity counts as the capacity.
     pub fn count(&self, store: &PlainStore) -> u32
-        requires { cells_end self.now ≤ length store.now }
-        ensures is { result ≡ counted self.now (values (store_of store.now) (count_cell self.now)) }
-        ensures content { (items : List ℕ) → StandsFor self.now (values (store_of store.now)) items → result ≡ length items }
+        requires { queue_cells_end self.now ≤ length store.now }
+        ensures is { result ≡ queue_counted self.now (values (store_of store.now) (queue_count_cell self.now)) }
+        ensures content { (items : List ℕ) → QueueStandsFor self.now (values (store_of store.now)) items → result ≡ length items }
     {
         store.get(Loc(self.base.0 + 1)).unwrap().min(self.cap)
     }
 
     /// An item in a store; that of index 0 is the front.
     pub fn item(&self, store: &PlainStore, index: u32) -> u32
-        requires within { cells_end self.now ≤ length store.now }
-        requires index { index < counted self.now (values (store_of store.now) (count_cell self.now)) }
-        ensures is { result ≡ values (store_of store.now) (ring_cell self.now (back_of self.now (head_in self.now (values (store_of store.now) (head_cell self.now))) index)) }
-        ensures content { (items : List ℕ) → StandsFor self.now (values (store_of store.now)) items → result ≡ slice_index items index }
+        requires within { queue_cells_end self.now ≤ length store.now }
+        requires index { index < queue_counted self.now (values (store_of store.now) (queue_count_cell self.now)) }
+        ensures is { result ≡ values (store_of store.now) (ring_cell self.now (back_of self.now (queue_head_in self.now (values (store_of store.now) (queue_head_cell self.now))) index)) }
+        ensures content { (items : List ℕ) → QueueStandsFor self.now (values (store_of store.now)) items → result ≡ slice_index items index }
     {
         let head = head_of(*self, store.get(self.base).unwrap());
         store
@@ -75,7 +75,7 @@ impl Queue {
 
 // A head not below the capacity counts as 0.
 pub(crate) fn head_of(queue: Queue, number: u32) -> u32
-    ensures is { result ≡ head_in queue number }
+    ensures is { result ≡ queue_head_in queue number }
     ensures within { result < queue.cap }
 {
     if number < queue.cap { number } else { 0 }

@@ -4,7 +4,7 @@ use Rattle.std.proofs.lemmas.List.{take_more, map-append}
 use Rattle.std.proofs.lemmas.List.Sums.{sum_by-le, sum-map}
 use Rattle.std.specs.Prelude.{All, sum}
 use Rattle.std.specs.Global.{Vec}
-use Rattle.kc_locked.specs.Passes.{StoreView, PassView, passes_of}
+use Rattle.kc_locked.specs.Passes.{LockedStoreView, PassView, passes_of}
 use Rattle.kc_run.specs.Jobs.{AllMayRun}
 use Rattle.kc_run.specs.Locked.{AllDealt}
 use Rattle.kc_run.specs.Shares.{shares_of}
@@ -21,10 +21,10 @@ shares_fit threads shares is few each =
     let total = sum_by-le f 4097 threads (λ i d lt. let l = each i d lt in omega arith) in
     let all = ap sum is ∙ sum-map f threads in omega (arith, total, all, few)
 
-deals : (store : StoreView) (k j : ℕ) → j ≡ k → (threads : List (Vec Command))
-    → AllMayRun (λ (s : StoreView) (p : PassView). p.table ≡ s.table) (λ (p : PassView). p.caller) (λ (p : PassView). p.left) (λ (p : PassView). p.own) store k threads (passes_of store.table j (shares_of threads))
+deals : (store : LockedStoreView) (k j : ℕ) → j ≡ k → (threads : List (Vec Command))
+    → AllMayRun (λ (s : LockedStoreView) (p : PassView). p.table ≡ s.table) (λ (p : PassView). p.caller) (λ (p : PassView). p.left) (λ (p : PassView). p.own) store k threads (passes_of store.table j (shares_of threads))
 deals store k j e [] = tt
 deals store k j e (v ∷ vs) = (record { belongs_to = refl; number_is = e; share = omega arith; fresh = refl }, deals store (suc k) (j + 1) (omega arith) vs)
 
-pub all_dealt : (store : StoreView) (threads : List (Vec Command)) (shares : List ℕ) (passes : List PassView) → shares ≡ shares_of threads → passes ≡ passes_of store.table 0 shares → AllDealt store threads passes
+pub all_dealt : (store : LockedStoreView) (threads : List (Vec Command)) (shares : List ℕ) (passes : List PassView) → shares ≡ shares_of threads → passes ≡ passes_of store.table 0 shares → AllDealt store threads passes
 all_dealt store threads shares passes is dealt = subst (AllDealt store threads) (sym (dealt ∙ ap (passes_of store.table 0) is)) (deals store 0 0 refl threads)

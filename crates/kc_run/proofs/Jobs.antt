@@ -7,9 +7,9 @@ use Rattle.kc_history.specs.RecordsValue.{RecordsValue}
 use Rattle.kc_history.specs.Callers.{of_caller}
 use Rattle.kc_history.specs.Records.{lists_of}
 use Rattle.kc_model.specs.declared.footprint.Entry.{Entry}
-use Rattle.kc_run.specs.Jobs.{Rooms, empty_records, paired, pass_of, list_of, row_at, Ready, Ran, JobRan, AllMayRun}
+use Rattle.kc_run.specs.Jobs.{Rooms, empty_records, paired, job_pass, list_of, row_at, JobReady, PassRan, JobRan, AllMayRun}
 use Rattle.kc_run.specs.Run.{CanRunAll}
-use Rattle.kc_run.specs.Shared.{count_from}
+use Rattle.kc_table_moves.specs.Views.{count_from}
 use Rattle.kc_run.specs.declared.job.Job.{Job}
 use Rattle.kc_script_bundle.specs.declared.operation.Command.{Command}
 use Rattle.kc_script_runs.specs.Threads.{CommitGives, AreGiven, AreRunBy, meanings}
@@ -82,7 +82,7 @@ module _ {S P : Type 0} (belongs : S → P → Type 0) (number left : P → ℕ)
   paired_length (p ∷ ps) (r ∷ rs) e = ap suc (paired_length ps rs (omega arith))
 
   ready_all : (k : ℕ) (threads : List (Vec Command)) (ps : List P) (rs : List RecordsValue) → AllMayRun belongs number left own store k threads ps → Rooms limit threads rs → (i : ℕ) (d : Job P) → i < length (paired ps rs)
-      → Ready belongs number left own limit store (k + i) (row_at threads i) (get_or (paired ps rs) i d)
+      → JobReady belongs number left own limit store (k + i) (row_at threads i) (get_or (paired ps rs) i d)
   ready_all k [] [] rs m r i d lt = absurd (omega arith)
   ready_all k [] (p ∷ ps) rs m r i d lt = absurd m
   ready_all k (v ∷ vs) [] rs m r i d lt = absurd m
@@ -95,7 +95,7 @@ module _ {S P : Type 0} (belongs : S → P → Type 0) (number left : P → ℕ)
     pub jobs : length threads ≡ length js
     pub rooms : length ps ≡ length rs
     pub passes : length threads ≡ length ps
-    pub each : (i : ℕ) (d : Job P) → i < length js → Ready belongs number left own limit store i (row_at threads i) (get_or js i d)
+    pub each : (i : ℕ) (d : Job P) → i < length js → JobReady belongs number left own limit store i (row_at threads i) (get_or js i d)
 
   pub jobs_ready : (threads : List (Vec Command)) (ps : List P) (rs : List RecordsValue) (js : List (Job P)) → AllMayRun belongs number left own store 0 threads ps → Rooms limit threads rs → js ≡ paired ps rs → AreReady threads ps rs js
   jobs_ready threads ps rs js m r e =
@@ -106,8 +106,8 @@ module _ {S P : Type 0} (belongs : S → P → Type 0) (number left : P → ℕ)
         rooms = sym a ∙ b;
         passes = a;
         each = λ i d lt.
-            subst (λ (xs : List (Job P)). Ready belongs number left own limit store i (row_at threads i) (get_or xs i d)) (sym e)
-            (let z : 0 + i ≡ i = omega arith in subst (λ n. Ready belongs number left own limit store n (row_at threads i) (get_or (paired ps rs) i d)) z (ready_all 0 threads ps rs m r i d (let q = ap length e in omega arith)));
+            subst (λ (xs : List (Job P)). JobReady belongs number left own limit store i (row_at threads i) (get_or xs i d)) (sym e)
+            (let z : 0 + i ≡ i = omega arith in subst (λ n. JobReady belongs number left own limit store n (row_at threads i) (get_or (paired ps rs) i d)) z (ready_all 0 threads ps rs m r i d (let q = ap length e in omega arith)));
       }
 
 module _ {S P : Type 0} (limit : ℕ) (gives : CommitGives) (belongs : S → P → Type 0) (number left : P → ℕ) (own : P → List Entry) (opening : S → List ℕ) (store : S) where
@@ -115,12 +115,12 @@ module _ {S P : Type 0} (limit : ℕ) (gives : CommitGives) (belongs : S → P �
   abbrev AllRan : List (Vec Command) → List (Job P) → Type 0
   AllRan threads js = (i : ℕ) (d : Job P) → i < length js → JobRan limit gives belongs number own opening store i (row_at threads i) (get_or js i d)
 
-  passes_belong : (threads : List (Vec Command)) (js : List (Job P)) → AllRan threads js → All (belongs store) (map pass_of js)
-  passes_belong threads js ran = all_map pass_of (belongs store) js (λ i d lt. (ran i d lt).belongs_to)
+  passes_belong : (threads : List (Vec Command)) (js : List (Job P)) → AllRan threads js → All (belongs store) (map job_pass js)
+  passes_belong threads js ran = all_map job_pass (belongs store) js (λ i d lt. (ran i d lt).belongs_to)
 
-  passes_counted : (threads : List (Vec Command)) (js : List (Job P)) → AllRan threads js → map number (map pass_of js) ≡ count_from 0 (length js)
-  passes_counted threads js ran = map_map js ∙ counted (λ j. number (pass_of j)) js 0 (λ i d lt. (ran i d lt).number_is ∙ (let z : i ≡ 0 + i = omega arith in z)) where
-    map_map : (xs : List (Job P)) → map number (map pass_of xs) ≡ map (λ j. number (pass_of j)) xs
+  passes_counted : (threads : List (Vec Command)) (js : List (Job P)) → AllRan threads js → map number (map job_pass js) ≡ count_from 0 (length js)
+  passes_counted threads js ran = map_map js ∙ counted (λ j. number (job_pass j)) js 0 (λ i d lt. (ran i d lt).number_is ∙ (let z : i ≡ 0 + i = omega arith in z)) where
+    map_map : (xs : List (Job P)) → map number (map job_pass xs) ≡ map (λ j. number (job_pass j)) xs
     map_map [] = refl
     map_map (x ∷ xs) = ap (λ l. number x.pass ∷ l) (map_map xs)
 
@@ -131,23 +131,23 @@ module _ {S P : Type 0} (limit : ℕ) (gives : CommitGives) (belongs : S → P �
   run_from history k (v ∷ vs) [] len ran owns = absurd (omega arith)
   run_from history k (v ∷ vs) (j ∷ js) len ran owns =
       let z : k + 0 ≡ k = omega arith in
-      let r : Ran limit gives belongs number own opening store k v.items j.pass j.records.items = subst (λ n. Ran limit gives belongs number own opening store n v.items j.pass j.records.items) z (ran 0 j (omega arith)) in
+      let r : PassRan limit gives belongs number own opening store k v.items j.pass j.records.items = subst (λ n. PassRan limit gives belongs number own opening store n v.items j.pass j.records.items) z (ran 0 j (omega arith)) in
       let o : of_caller (number j.pass) history ≡ own j.pass = owns 0 j (omega arith) in (
         record { labelled = r.labelled; answered = r.answered; committed = subst (AreGiven gives k (meanings limit (k + 1) v.items) [] j.records.items) (sym (ap (λ n. of_caller n history) (sym r.number_is) ∙ o)) r.own_is },
-        run_from history (suc k) vs js (omega arith) (λ i d lt. let e : k + suc i ≡ suc k + i = omega arith in subst (λ n. Ran limit gives belongs number own opening store n (row_at vs i) (get_or js i d).pass (get_or js i d).records.items) e (ran (suc i) d (omega arith))) (λ i d lt. owns (suc i) d (omega arith)),
+        run_from history (suc k) vs js (omega arith) (λ i d lt. let e : k + suc i ≡ suc k + i = omega arith in subst (λ n. PassRan limit gives belongs number own opening store n (row_at vs i) (get_or js i d).pass (get_or js i d).records.items) e (ran (suc i) d (omega arith))) (λ i d lt. owns (suc i) d (omega arith)),
       )
 
-  run_all : (history : List Entry) (threads : List (Vec Command)) (js : List (Job P)) → length threads ≡ length js → AllRan threads js → All (λ p. of_caller (number p) history ≡ own p) (map pass_of js) → AreRunBy gives limit (length (opening store)) 0 history (map (λ (v : Vec Command). v.items) threads) (lists_of (map list_of js))
+  run_all : (history : List Entry) (threads : List (Vec Command)) (js : List (Job P)) → length threads ≡ length js → AllRan threads js → All (λ p. of_caller (number p) history ≡ own p) (map job_pass js) → AreRunBy gives limit (length (opening store)) 0 history (map (λ (v : Vec Command). v.items) threads) (lists_of (map list_of js))
   run_all history threads js len ran owns =
-      run_from history 0 threads js len (λ i d lt. let z : i ≡ 0 + i = omega arith in subst (λ n. Ran limit gives belongs number own opening store n (row_at threads i) (get_or js i d).pass (get_or js i d).records.items) z (ran i d lt))
+      run_from history 0 threads js len (λ i d lt. let z : i ≡ 0 + i = omega arith in subst (λ n. PassRan limit gives belongs number own opening store n (row_at threads i) (get_or js i d).pass (get_or js i d).records.items) z (ran i d lt))
       (λ i d lt. let p = pick js i lt in
-      subst (λ (x : Job P). of_caller (number x.pass) history ≡ own x.pass) (sym (p.1 d)) (subst (λ q. of_caller (number q) history ≡ own q) (p.2 P pass_of p.0.pass) (owns i p.0.pass (let e = length-map js pass_of in omega arith))))
+      subst (λ (x : Job P). of_caller (number x.pass) history ≡ own x.pass) (sym (p.1 d)) (subst (λ q. of_caller (number q) history ≡ own q) (p.2 P job_pass p.0.pass) (owns i p.0.pass (let e = length-map js job_pass in omega arith))))
 
   -- the passes come back, and the run shows in any history of which each own list is its caller's part
   pub record AreDone (threads : List (Vec Command)) (js : List (Job P)) (callers : ℕ) : Type 0 where
-    pub belong : All (belongs store) (map pass_of js)
-    pub numbered : map number (map pass_of js) ≡ count_from 0 callers
-    pub run : (history : List Entry) → All (λ p. of_caller (number p) history ≡ own p) (map pass_of js) → AreRunBy gives limit (length (opening store)) 0 history (map (λ (v : Vec Command). v.items) threads) (lists_of (map list_of js))
+    pub belong : All (belongs store) (map job_pass js)
+    pub numbered : map number (map job_pass js) ≡ count_from 0 callers
+    pub run : (history : List Entry) → All (λ p. of_caller (number p) history ≡ own p) (map job_pass js) → AreRunBy gives limit (length (opening store)) 0 history (map (λ (v : Vec Command). v.items) threads) (lists_of (map list_of js))
 
   pub ran_done : (threads : List (Vec Command)) (ps : List P) (rs : List RecordsValue) (before js : List (Job P)) (callers : ℕ) → AreReady belongs number left own store limit threads ps rs before → length js ≡ length before
       → ((i : ℕ) (d : Job P) → i < length before → JobRan limit gives belongs number own opening store i (row_at threads i) (get_or js i d)) → length threads ≡ callers → AreDone threads js callers

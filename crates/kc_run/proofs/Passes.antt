@@ -11,10 +11,10 @@ use Rattle.kc_model.specs.declared.reply.Answer.{Answer}
 use Rattle.kc_model.specs.declared.reply.Answer.TheVariants as answer
 use Rattle.kc_run.proofs.Pasts.{values_are}
 use Rattle.kc_run.specs.Jobs.{AllMayRun}
-use Rattle.kc_run.specs.Kcas.{AllKcDealt, BelongsTo, CommitsSince, Opened, OpensAtZero, left_in, more, none}
+use Rattle.kc_run.specs.Kcas.{AllKcDealt, BelongsTo, CommitsSince, OpenedForCallers, OpensAtZero, left_in, more, none}
 use Rattle.kc_script_bundle.specs.declared.bundle.TheConstants.{MOST_COMMANDS}
 use Rattle.kc_script_bundle.specs.declared.operation.Command.{Command}
-use Rattle.kc_script_runs.specs.Looks.{GivesBehindLooks, IsLook}
+use Rattle.kc_script_runs.specs.Looks.{GivesBehindLooks, IsWaitingTry}
 use Rattle.kc_store.specs.Views.{CallerView, StoreView, caller_view, opened_caller, opened_callers, store_view}
 use Rattle.kc_store.specs.declared.verdict.Answered.{Answered}
 use Rattle.kc_table_moves.specs.Views.{OpensAt}
@@ -27,7 +27,7 @@ gives_behind m f c d b = record {
   looks = b.looks;
   number = b.number;
   added = b.own;
-  each = All-weaker (IsLookOf c.number m) (IsLook c.number m) (λ e l. record { own = l.own; puts_nothing = l.puts_nothing; waits = l.waits }) b.looks b.each;
+  each = All-weaker (IsLookOf c.number m) (IsWaitingTry c.number m) (λ e l. record { own = l.own; puts_nothing = l.puts_nothing; waits = l.waits }) b.looks b.each;
   rising = b.rising;
 }
 
@@ -58,7 +58,7 @@ first_shows z (suc n) callers c d dealt lt at shown =
     let first : c ≡ opened_caller z 0 = at ∙ ap (λ cs. get_or cs 0 d) dealt in
     sym (ap (λ (b : CallerView). b.of) first) ∙ ap (λ (b : CallerView). b.of) shown ∙ ap (λ (b : CallerView). store_view b.seat.of) first
 
-pub opens : (values : List ℕ) (z : StoreView) (callers : List CallerView) (n : ℕ) → OpensAt values (replicate (length values) 0) n 0 z.table → z ≡ store_view z.table → callers ≡ opened_callers z 0 n → Opened values n z callers
+pub opens : (values : List ℕ) (z : StoreView) (callers : List CallerView) (n : ℕ) → OpensAt values (replicate (length values) 0) n 0 z.table → z ≡ store_view z.table → callers ≡ opened_callers z 0 n → OpenedForCallers values n z callers
 opens values z callers n o shown dealt = record { opening = values_are z.table.origin values o.locations (λ l lt. (o.cells l lt).1); callers_are = ap (λ (y : StoreView). y.callers) shown ∙ o.seats; shown = shown; dealt = dealt }
 
 pub opens_at_zero : (values : List ℕ) (n g : ℕ) (z : StoreView) → OpensAt values (replicate (length values) 0) n g z.table → z ≡ store_view z.table → OpensAtZero z

@@ -5,22 +5,20 @@ use Rattle.std.proofs.lemmas.List.{get_or-map, length-map}
 use Rattle.std.proofs.lemmas.List.Elements.{All-head, All-map, All-tail, All-weaker}
 use Rattle.std.proofs.lemmas.List.Sorted.{IsPermutation-refl}
 use Rattle.kc_history.specs.Callers.{IsBelowCallers, IsLegalFrom, of_caller}
-use Rattle.kc_machine_traces.specs.Histories.{History, Placed, ending, entries}
+use Rattle.kc_machine_traces.specs.Histories.{History, Placed, ending_store, entries}
 use Rattle.kc_machine_traces.specs.Traces.{first_store}
-use Rattle.kc_machine_traces.specs.Entries.{by}
+use Rattle.kc_machine_traces.specs.Entries.{placed_by}
 use Rattle.kc_model.specs.Footprint.{IsBelow, put_at}
 use Rattle.kc_model.specs.Legal.{IsLegal}
 use Rattle.kc_model.specs.Store.{Finds, Store, after, cell_after, opened, store_of}
 use Rattle.kc_model.specs.declared.footprint.Entry.{Entry}
 use Rattle.kc_run.specs.Kcas.{BelongsTo, values_at}
-use Rattle.kc_run.specs.Shared.{count_from}
 use Rattle.kc_store.proofs.Within.{past_lies}
 use Rattle.kc_store.specs.Backs.{AreAllCallers}
 use Rattle.kc_store.specs.Views.{CallerView, StoreView}
 use Rattle.kc_store.specs.Within.{LiesIn}
 use Rattle.kc_table_moves.specs.Origins.{Origin, opening_of}
-use Rattle.kc_table_moves.specs.Views.{IsPart, IsPast, PastView, SeatView, TableView}
-use Rattle.kc_table_moves.specs.Views.{count_from as counted_from}
+use Rattle.kc_table_moves.specs.Views.{IsPart, IsPast, TablePastView, SeatView, TableView, count_from}
 use Rattle.kc_table_views.specs.Known.{known}
 
 -- ---- values
@@ -65,17 +63,17 @@ entries_lie : (n : ℕ) (h : History) → All (LiesIn n) h → All (λ (x : Entr
 entries_lie n h lie = All-map (λ (x : Entry). IsBelow n x.footprint) (λ (x : Placed). x.entry) h (All-weaker (LiesIn n) (λ (x : Placed). IsBelow n x.entry.footprint) (λ x l. l.reads) h lie)
 
 -- the entries of the one history of a table
-abbrev pub entries_in : PastView → List Entry
+abbrev pub entries_in : TablePastView → List Entry
 entries_in p = entries (known (opening_of p.origin) p.schedule)
 
-pub legal_from_values : (z : TableView) (seats : List SeatView) (p : PastView) → ((l : ℕ) → l < z.origin.locations → (opening_of z.origin).version l ≡ 0) → IsPast z seats p → IsLegalFrom (values_at z.origin) (entries_in p)
+pub legal_from_values : (z : TableView) (seats : List SeatView) (p : TablePastView) → ((l : ℕ) → l < z.origin.locations → (opening_of z.origin).version l ≡ 0) → IsPast z seats p → IsLegalFrom (values_at z.origin) (entries_in p)
 legal_from_values z seats p zeros past =
     let o = opening_of p.origin in
     let h = known o p.schedule in
     let at_zero : (l : ℕ) → l < z.origin.locations → first_store o l ≡ store_of (opened (values_at z.origin)) l =
     λ l lt. let at : 0 + l ≡ l = omega arith in
     ap (λ (q : Origin). first_store (opening_of q) l) past.origin ∙ ap (λ v. record { version = v; value = (opening_of z.origin).value l }) (zeros l lt) ∙ sym (cells_at (opening_of z.origin).value 0 z.origin.locations l lt ∙ ap (λ m. record { version = 0; value = (opening_of z.origin).value m }) at) in
-    legal_there z.origin.locations (first_store o) (store_of (opened (values_at z.origin))) (ending (first_store o) h) (entries h) at_zero (entries_lie z.origin.locations h (past_lies z seats p past)) past.whole.legal
+    legal_there z.origin.locations (first_store o) (store_of (opened (values_at z.origin))) (ending_store (first_store o) h) (entries h) at_zero (entries_lie z.origin.locations h (past_lies z seats p past)) past.whole.legal
 
 -- ---- callers
 
@@ -83,11 +81,11 @@ either_way : (b : Bool) (x : Placed) (h : History) (es : List Entry) → es ≡ 
 either_way true x h es e = ap (λ (l : List Entry). x.entry ∷ l) e
 either_way false x h es e = e
 
-entries_by : (k : ℕ) (h : History) → of_caller k (entries h) ≡ entries (by k h)
+entries_by : (k : ℕ) (h : History) → of_caller k (entries h) ≡ entries (placed_by k h)
 entries_by k [] = refl
-entries_by k (x ∷ h) = either_way (x.entry.caller == k) x (by k h) (of_caller k (entries h)) (entries_by k h)
+entries_by k (x ∷ h) = either_way (x.entry.caller == k) x (placed_by k h) (of_caller k (entries h)) (entries_by k h)
 
-pub own_parts : (z : StoreView) (callers : List CallerView) (p : PastView) → All (BelongsTo z) callers → IsPast z.table (map (λ (c : CallerView). c.seat) callers) p → All (λ (c : CallerView). of_caller c.number (entries_in p) ≡ c.own) callers
+pub own_parts : (z : StoreView) (callers : List CallerView) (p : TablePastView) → All (BelongsTo z) callers → IsPast z.table (map (λ (c : CallerView). c.seat) callers) p → All (λ (c : CallerView). of_caller c.number (entries_in p) ≡ c.own) callers
 own_parts z callers p belong past k d lt =
     let f : CallerView → SeatView = λ c. c.seat in
     let o = opening_of p.origin in
@@ -97,16 +95,12 @@ own_parts z callers p belong past k d lt =
     let shown = (belong k d lt).shown in
     ap (λ (b : CallerView). of_caller b.number (entries_in p)) shown ∙ entries_by c.seat.number (known o p.schedule) ∙ ap entries part.1.own ∙ sym (ap (λ (b : CallerView). b.own) shown)
 
-pub below_callers : (z : TableView) (seats : List SeatView) (p : PastView) → IsPast z seats p → IsBelowCallers z.origin.callers (entries_in p)
+pub below_callers : (z : TableView) (seats : List SeatView) (p : TablePastView) → IsPast z seats p → IsBelowCallers z.origin.callers (entries_in p)
 below_callers z seats p past =
     subst (λ (q : Origin). IsBelowCallers q.callers (entries_in p)) past.origin
     (All-map (λ (e : Entry). e.caller < p.origin.callers) (λ (x : Placed). x.entry) (known (opening_of p.origin) p.schedule) past.whole.of_callers)
 
 -- ---- all callers
-
-counts_agree : (k n : ℕ) → count_from k n ≡ counted_from k n
-counts_agree k zero = refl
-counts_agree k (suc n) = ap (λ (l : List ℕ). k ∷ l) (counts_agree (suc k) n)
 
 pub map_same : {A : Type 0} (xs : List A) → map (λ x. x) xs ≡ xs
 map_same [] = refl
@@ -115,5 +109,5 @@ map_same (x ∷ xs) = ap (λ l. x ∷ l) (map_same xs)
 pub are_all : (z : StoreView) (callers : List CallerView) → All (BelongsTo z) callers → map (λ (c : CallerView). c.number) callers ≡ count_from 0 z.callers → AreAllCallers z callers
 are_all z callers belong all = record {
   of = All-weaker (BelongsTo z) (λ (c : CallerView). c.of ≡ z) (λ c b. b.of) callers belong;
-  all = subst (IsPermutation (counted_from 0 z.callers)) (sym (all ∙ counts_agree 0 z.callers)) (IsPermutation-refl (counted_from 0 z.callers));
+  all = subst (IsPermutation (count_from 0 z.callers)) (sym all) (IsPermutation-refl (count_from 0 z.callers));
 }

@@ -12,7 +12,7 @@ use Rattle.kc_loc.specs.declared.operation.LocOp.TheVariants as loc
 use Rattle.kc_history.specs.RecordsValue.{RecordsValue}
 use Rattle.kc_history.specs.declared.record.Record.{Record}
 use Rattle.kc_history.specs.declared.record.Mark.TheVariants as mark
-use Rattle.kc_run.specs.Jobs.{Ran, empty_records}
+use Rattle.kc_run.specs.Jobs.{PassRan, empty_records}
 use Rattle.kc_script_runs.specs.Labels.{Label, label, labels}
 use Rattle.kc_script_runs.proofs.Given.{given_more}
 use Rattle.kc_script_runs.specs.Threads.{asked, CommitGives, AreAnswered, AreGiven, IsAnswered, meanings}
@@ -94,7 +94,7 @@ module _ {S P : Type 0} (limit thread : ℕ) (gives : CommitGives) (belongs : S 
   -- and then its end
   pub ran_end : (store : S) (commands : List Command) (first now next : P) (before after : RecordsValue) (i k : ℕ) (r : Record) → RanTo store commands first now before i → length commands ≤ i → number first ≡ k → thread ≡ k + 1
       → belongs store next × (number next ≡ number now) → gives (number now) (limited MOST (end_meaning 0)) (own now) r.footprint (own next) → IsAnswered (length (opening store)) (limited MOST (end_meaning 0)) r
-      → after.items ≡ before.items ++ r ∷ [] → r.thread ≡ thread → r.mark ≡ mark.End → Ran limit gives belongs number own opening store k commands next after.items
+      → after.items ≡ before.items ++ r ∷ [] → r.thread ≡ thread → r.mark ≡ mark.End → PassRan limit gives belongs number own opening store k commands next after.items
   ran_end store commands first now next before after i k r so_far all numbered is pass own_next answers added by marked =
       let given = subst (λ (cs : List Command). AreGiven gives (number first) (map (asked limit thread) cs) [] before.items (own now)) (take_all i commands all) so_far.given in
       let answered = subst (λ (cs : List Command). AreAnswered (length (opening store)) (map (asked limit thread) cs) before.items) (take_all i commands all) so_far.answered in

@@ -35,15 +35,15 @@ module _ {P : Type 0} where
   paired (p ∷ ps) [] = []
   paired (p ∷ ps) (r ∷ rs) = job p r ∷ paired ps rs
 
-  abbrev pub pass_of : Job P → P
-  pass_of j = j.pass
+  abbrev pub job_pass : Job P → P
+  job_pass j = j.pass
 
   abbrev pub list_of : Job P → RecordsValue
   list_of j = j.records
 
 module _ {S P : Type 0} (belongs : S → P → Type 0) (number left : P → ℕ) (own : P → List Entry) where
   -- a pass that may commit the commands of its thread and its end, and has made no commit
-  pub record MayRun (store : S) (k : ℕ) (commands : List Command) (p : P) : Type 0 where
+  pub record PassMayRun (store : S) (k : ℕ) (commands : List Command) (p : P) : Type 0 where
     pub belongs_to : belongs store p
     pub number_is : number p ≡ k
     pub share : length commands + 1 ≤ left p
@@ -54,16 +54,16 @@ module _ {S P : Type 0} (belongs : S → P → Type 0) (number left : P → ℕ)
   AllMayRun store k [] [] = Unit {0}
   AllMayRun store k [] (p ∷ ps) = ⊥
   AllMayRun store k (v ∷ vs) [] = ⊥
-  AllMayRun store k (v ∷ vs) (p ∷ ps) = MayRun store k v.items p × AllMayRun store (suc k) vs ps
+  AllMayRun store k (v ∷ vs) (p ∷ ps) = PassMayRun store k v.items p × AllMayRun store (suc k) vs ps
 
   -- the job has its pass, and room for a record for each command and its end
-  pub record Ready (limit : ℕ) (store : S) (k : ℕ) (commands : List Command) (j : Job P) : Type 0 where
-    pub may : MayRun store k commands j.pass
+  pub record JobReady (limit : ℕ) (store : S) (k : ℕ) (commands : List Command) (j : Job P) : Type 0 where
+    pub may : PassMayRun store k commands j.pass
     pub room : j.records ≡ empty_records limit commands
 
 module _ {S P : Type 0} (limit : ℕ) (gives : CommitGives) (belongs : S → P → Type 0) (number : P → ℕ) (own : P → List Entry) (opening : S → List ℕ) where
   -- the pass's own list is what the commits of these records gave, which are those of the commands and the end
-  pub record Ran (store : S) (k : ℕ) (commands : List Command) (p : P) (records : List Record) : Type 0 where
+  pub record PassRan (store : S) (k : ℕ) (commands : List Command) (p : P) (records : List Record) : Type 0 where
     pub belongs_to : belongs store p
     pub number_is : number p ≡ k
     pub labelled : map label records ≡ labels (k + 1) 1 commands
@@ -71,4 +71,4 @@ module _ {S P : Type 0} (limit : ℕ) (gives : CommitGives) (belongs : S → P �
     pub own_is : AreGiven gives k (meanings limit (k + 1) commands) [] records (own p)
 
   abbrev pub JobRan : S → ℕ → List Command → Job P → Type 0
-  JobRan store k commands j = Ran store k commands j.pass j.records.items
+  JobRan store k commands j = PassRan store k commands j.pass j.records.items

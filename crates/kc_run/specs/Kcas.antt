@@ -6,12 +6,12 @@ use Rattle.kc_machine_traces.specs.Histories.{entries}
 use Rattle.kc_model.specs.declared.footprint.Entry.{Entry}
 use Rattle.kc_model.specs.declared.footprint.Footprint.{Footprint}
 use Rattle.kc_run.specs.Jobs.{AllMayRun}
-use Rattle.kc_run.specs.Shared.{count_from}
 use Rattle.kc_script_bundle.specs.declared.bundle.TheConstants.{MOST_COMMANDS}
 use Rattle.kc_script_bundle.specs.declared.operation.Command.{Command}
 use Rattle.kc_store.specs.Views.{CallerView, PastView, StoreView, caller_view, opened_caller, opened_callers, store_view}
 use Rattle.kc_store.specs.declared.verdict.Answered.{Answered}
 use Rattle.kc_table_moves.specs.Origins.{Origin, opening_of}
+use Rattle.kc_table_moves.specs.Views.{count_from}
 use Rattle.kc_table_moves.specs.Views.{SeatView}
 use Rattle.kc_table_views.specs.Known.{known}
 use Rattle.kc_xt.specs.Meaning.{Meaning}
@@ -61,7 +61,7 @@ left_in c = MOST_COMMANDS + 1
 -- ---- openings
 
 -- a store that was opened on these values for so many callers, which have done nothing
-pub record Opened (values : List ℕ) (callers : ℕ) (store : StoreView) (all : List CallerView) : Type 0 where
+pub record OpenedForCallers (values : List ℕ) (callers : ℕ) (store : StoreView) (all : List CallerView) : Type 0 where
   pub opening : values_of store ≡ values
   pub callers_are : store.callers ≡ callers
   pub shown : store ≡ store_view store.table

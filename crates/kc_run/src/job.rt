@@ -2,7 +2,7 @@
 
 ghost use Rattle.std.specs.Prelude.{◌≡◌, ◌≤◌, [], length, map, vec_capacity, All, IfOk};
 ghost use Rattle.kc_model.specs.declared.footprint.TheConstants.{MOST};
-ghost use Rattle.kc_run.specs.Jobs.{Rooms, empty_records, paired, pass_of, list_of};
+ghost use Rattle.kc_run.specs.Jobs.{Rooms, empty_records, paired, job_pass, list_of};
 
 use kc_history::Records;
 use kc_script_bundle::{Command, MOST_COMMANDS};
@@ -68,7 +68,7 @@ pub fn part<P: Drop>(
 ) -> (Vec<P>, Vec<Records>)
     requires empty { (passes.items ≡ []) × (records.items ≡ []) }
     requires room { (length jobs.items ≤ vec_capacity passes) × (length jobs.items ≤ vec_capacity records) }
-    ensures passes { result.0.items ≡ map pass_of jobs.items }
+    ensures passes { result.0.items ≡ map job_pass jobs.items }
     ensures records { result.1.items ≡ map list_of jobs.items }
 {
     for job in jobs {

@@ -2,8 +2,8 @@
 
 ghost use Rattle.std.specs.Prelude.{◌≡◌, ◌↔◌, ◌<◌, ◌≤◌, ◌⊎◌, All, Err, IfOk, length, map};
 ghost use Rattle.kc_history.specs.Callers.{of_caller, IsBelowCallers, IsLegalFrom};
-ghost use Rattle.kc_run.specs.Kcas.{AllKcDealt, BelongsTo, Opened, history_in, values_in, values_of};
-ghost use Rattle.kc_run.specs.Shared.{count_from};
+ghost use Rattle.kc_run.specs.Kcas.{AllKcDealt, BelongsTo, OpenedForCallers, history_in, values_in, values_of};
+ghost use Rattle.kc_table_moves.specs.Views.{count_from};
 
 use crate::shared::Shared;
 use kc_await::commit_waiting_into;
@@ -115,7 +115,7 @@ impl KcShared {
         values: &[u32],
         callers: u32,
     ) -> Result<(KcShared, Vec<Caller>), OpenError>
-        ensures ok { IfOk result (λ r. Opened values.now callers r.0 r.1.items) }
+        ensures ok { IfOk result (λ r. OpenedForCallers values.now callers r.0 r.1.items) }
         ensures locations { (result ≡ Err OpenError.TooManyLocs) ↔ (MOST_LOCATIONS < length values.now) }
         ensures callers { (result ≡ Err OpenError.TooManyCallers) ↔ ((length values.now ≤ MOST_LOCATIONS) × ((callers ≡ 0) ⊎ (MOST_CALLERS < callers))) }
     {

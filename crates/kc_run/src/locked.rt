@@ -2,7 +2,7 @@
 
 ghost use Rattle.std.specs.Prelude.{◌≡◌, ◌<◌, ◌≤◌, All, length, map, IfOk};
 ghost use Rattle.kc_history.specs.Callers.{of_caller, IsBelowCallers, IsLegalFrom};
-ghost use Rattle.kc_run.specs.Shared.{count_from};
+ghost use Rattle.kc_table_moves.specs.Views.{count_from};
 ghost use Rattle.kc_run.specs.Locked.{AllDealt};
 
 use crate::shared::Shared;

@@ -5,11 +5,11 @@ ghost use Rattle.kc_history.specs.Callers.{IsBelowCallers, IsLegalFrom};
 ghost use Rattle.kc_history.specs.Records.{lists_of};
 ghost use Rattle.kc_model.specs.declared.footprint.TheConstants.{MOST};
 ghost use Rattle.kc_script_bundle.specs.declared.bundle.TheConstants.{MOST_THREADS};
-ghost use Rattle.kc_script_runs.specs.Labels.{AreThreads};
+ghost use Rattle.kc_script_runs.specs.Labels.{ThreadsHaveRecords};
 ghost use Rattle.kc_script_runs.specs.Threads.{AreRunBy};
 ghost use Rattle.kc_run.specs.Run.{CanRunAll};
 ghost use Rattle.kc_run.specs.Shared.{commit_gives};
-ghost use Rattle.kc_run.specs.Jobs.{AllMayRun, JobRan, Ready, row_at};
+ghost use Rattle.kc_run.specs.Jobs.{AllMayRun, JobRan, JobReady, row_at};
 
 use crate::gate::Gate;
 use crate::job::{Job, pair, part, rooms};
@@ -55,7 +55,7 @@ pub fn run_threads<S: Shared, G: Gate, R: Threads + Wait + Sync>(
     ensures began { IfOk result (λ r. S.began r.1 ≡ S.opening shared) }
     ensures legal { IfOk result (λ r. IsLegalFrom (S.opening shared) (S.history r.1)) }
     ensures run { IfOk result (λ r. AreRunBy (commit_gives S.enters_looks) limit (length (S.opening shared)) 0 (S.history r.1) (map (λ v. v.items) threads.now) (lists_of r.0.items)) }
-    ensures threads { IfOk result (λ r. AreThreads 1 (map (λ v. v.items) threads.now) (lists_of r.0.items)) }
+    ensures threads { IfOk result (λ r. ThreadsHaveRecords 1 (map (λ v. v.items) threads.now) (lists_of r.0.items)) }
     ensures nobody_else { IfOk result (λ r. IsBelowCallers (length threads.now) (S.history r.1)) }
     ensures refused { IfErr result (λ e. (e.shared ≡ shared) × (e.passes.items ≡ passes.items)) }
 {
@@ -87,13 +87,13 @@ fn run_jobs<S: Shared, G: Gate, R: Threads + Wait + Sync>(
     requires some { 0 < length jobs.items }
     requires locations { 0 < length (S.opening shared.now) }
     requires commands { All (λ v. CanRunAll (length (S.opening shared.now)) v.items) threads.now }
-    requires ready { (i : ℕ) (d : _) → i < length jobs.items → Ready S.belongs S.number S.left S.own limit shared.now i (row_at threads.now i) (slice_index_or jobs.items i d) }
+    requires ready { (i : ℕ) (d : _) → i < length jobs.items → JobReady S.belongs S.number S.left S.own limit shared.now i (row_at threads.now i) (slice_index_or jobs.items i d) }
     ensures len { length result.items ≡ length jobs.items }
     ensures ran { (i : ℕ) (d : _) → i < length jobs.items → JobRan limit (commit_gives S.enters_looks) S.belongs S.number S.own S.opening shared.now i (row_at threads.now i) (slice_index_or result.items i d) }
 {
     let count = jobs.len();
     let run = |i: usize, job: &mut Job<S::Pass>|
-        requires { (0 < limit) × (limit ≤ MOST) × (i < length threads.now) × (length threads.now ≤ MOST_THREADS) × (0 < length (S.opening shared.now)) × All (λ v. CanRunAll (length (S.opening shared.now)) v.items) threads.now × Ready S.belongs S.number S.left S.own limit shared.now i (row_at threads.now i) job.now }
+        requires { (0 < limit) × (limit ≤ MOST) × (i < length threads.now) × (length threads.now ≤ MOST_THREADS) × (0 < length (S.opening shared.now)) × All (λ v. CanRunAll (length (S.opening shared.now)) v.items) threads.now × JobReady S.belongs S.number S.left S.own limit shared.now i (row_at threads.now i) job.now }
         ensures { JobRan limit (commit_gives S.enters_looks) S.belongs S.number S.own S.opening shared.entry.now i (row_at threads.entry.now i) job.exit.now }
     { run_thread(rt, shared, gate, threads, limit, i, job) };
     thread::for_each_mut(rt, jobs.as_mut_slice(), count, &run);

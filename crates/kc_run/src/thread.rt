@@ -3,7 +3,7 @@
 ghost use Rattle.std.specs.Prelude.{◌≡◌, ◌+◌, ◌<◌, ◌≤◌, All, length};
 ghost use Rattle.kc_model.specs.declared.footprint.TheConstants.{MOST};
 ghost use Rattle.kc_script_bundle.specs.declared.bundle.TheConstants.{MOST_THREADS};
-ghost use Rattle.kc_run.specs.Jobs.{JobRan, Ready, row_at};
+ghost use Rattle.kc_run.specs.Jobs.{JobRan, JobReady, row_at};
 ghost use Rattle.kc_run.specs.Run.{CanRunAll};
 ghost use Rattle.kc_run.specs.Shared.{commit_gives};
 
@@ -35,7 +35,7 @@ pub fn run_thread<S: Shared, R: Wait, G: Gate>(
     requires thread { (place < length threads.now) × (length threads.now ≤ MOST_THREADS) }
     requires locations { 0 < length (S.opening shared.now) }
     requires commands { All (λ v. CanRunAll (length (S.opening shared.now)) v.items) threads.now }
-    requires ready { Ready S.belongs S.number S.left S.own limit shared.now place (row_at threads.now place) job.old }
+    requires ready { JobReady S.belongs S.number S.left S.own limit shared.now place (row_at threads.now place) job.old }
     ensures { JobRan limit (commit_gives S.enters_looks) S.belongs S.number S.own S.opening shared.now place (row_at threads.now place) job.new }
 {
     let commands = threads[place].as_slice();

@@ -26,16 +26,16 @@ use Rattle.kc_script_lines.specs.Words.{value_on, number}
 use Rattle.kc_script.specs.Version.{limit_of, has_kind}
 use Rattle.kc_script.specs.Reading.{unknown_line}
 use Rattle.kc_script.specs.Reading.{limit_line as limit_at}
-use Rattle.kc_script.specs.Spells.{Begins, old_header, limit_line}
+use Rattle.kc_script.specs.Spells.{Begins, old_header, spelled_limit}
 use Rattle.kc_script.specs.declared.reader.Version.{Version}
 use Rattle.kc_script.specs.declared.reader.Version.TheVariants as version
 use Rattle.kc_script.proofs.Took.{outside, at, inside, all_contents, skipping}
 use Rattle.kc_script.proofs.Trees.{nested, nested_push, nest_ok, IsSmall}
 use Rattle.kc_script.specs.Blocks.{OpenBlock, Place, sequence, nest, op_line, counted_up, or_at, end_at}
 use Rattle.kc_script.specs.Blocks.{atomic_line as atomic_at}
-use Rattle.kc_script.specs.Reading.{State, opening, declared_line, said_line, begun_block, worded_line, header_line, content_line, ended, script_at, spelled}
+use Rattle.kc_script.specs.Reading.{ReadingState, opening_state, declared_line, said_line, begun_block, worded_line, header_line, content_line, reading_ended, script_at, spelled}
 use Rattle.kc_script.specs.Reading.{thread_line as opened_thread}
-use Rattle.kc_script.specs.Spells.{Line, header, thread_line, atomic_line, or_line, end_line, Declare, Block, Say, Threads, Spells}
+use Rattle.kc_script.specs.Spells.{Line, header, spelled_thread, spelled_atomic, or_line, end_line, Declare, Block, Say, Threads, Spells}
 use Rattle.kc_script_verbs.proofs.ObjectRows.{declares_declared}
 use Rattle.kc_script_verbs.proofs.Rows.{says_said}
 use Rattle.kc_script_verbs.proofs.Tested.{declare_is}
@@ -45,8 +45,8 @@ use Rattle.kc_script_verbs.specs.Saying.{say, said_by, said}
 use Rattle.kc_script_verbs.specs.Words.{structure_word, word_of}
 
 -- a line was read, and then the others
-read_on : (s next : State) (line : Line) (ls : List Line) → content_line s line ≡ Ok next → all_contents s (line ∷ ls) ≡ all_contents next ls
-read_on s next line ls e = ap (λ (r : Result State Why). r >>= λ next. all_contents next ls) e
+read_on : (s next : ReadingState) (line : Line) (ls : List Line) → content_line s line ≡ Ok next → all_contents s (line ∷ ls) ≡ all_contents next ls
+read_on s next line ls e = ap (λ (r : Result ReadingState Why). r >>= λ next. all_contents next ls) e
 
 -- a word that says an operation
 said_word : (thread : ℕ) (names : Names) (w : Option Word) (args : List (List ℕ)) (o : Op) → said_by thread names w args ≡ Ok o → (v : Verb) × (w ≡ Some (word.Say v)) × (say thread names v args ≡ Ok o)
@@ -94,14 +94,14 @@ module _ (ver : Version) where
         rw (w.1, w.2, room) refl
 
     -- a block begins
-    atomic_inside : (count : ℕ) → length here < 4096 → content_line (inside ver whole names threads thread (at here [] count)) atomic_line ≡ Ok (inside ver whole names threads thread (at here (record { level = 0; done = []; parts = [] } ∷ []) 0))
+    atomic_inside : (count : ℕ) → length here < 4096 → content_line (inside ver whole names threads thread (at here [] count)) spelled_atomic ≡ Ok (inside ver whole names threads thread (at here (record { level = 0; done = []; parts = [] } ∷ []) 0))
     unfolding content_line worded_line begun_block atomic_at counted_up word_of structure_word
     atomic_inside count lt =
         let room : ltb (length here) 4096 ≡ true = lt-ltb (length here) 4096 lt in
         rw room refl
 
     -- a block begins in a block
-    inner_inside : (b : OpenBlock) (outer : List OpenBlock) (count : ℕ) → count < 16 → b.level < 8 → content_line (inside ver whole names threads thread (at here (b ∷ outer) count)) atomic_line ≡ Ok (inside ver whole names threads thread (at here (record { level = b.level + 1; done = []; parts = [] } ∷ b ∷ outer) (count + 1)))
+    inner_inside : (b : OpenBlock) (outer : List OpenBlock) (count : ℕ) → count < 16 → b.level < 8 → content_line (inside ver whole names threads thread (at here (b ∷ outer) count)) spelled_atomic ≡ Ok (inside ver whole names threads thread (at here (record { level = b.level + 1; done = []; parts = [] } ∷ b ∷ outer) (count + 1)))
     unfolding content_line worded_line begun_block atomic_at counted_up word_of structure_word
     inner_inside b outer count lt shallow =
         let room : ltb count 16 ≡ true = lt-ltb count 16 lt in
@@ -141,7 +141,7 @@ module _ (ver : Version) where
         let c : OpenBlock = record { level = level + 1; done = []; parts = [] } in
         let place = inside ver whole names threads thread (at here (c ∷ b ∷ outer) (count + 1)) in
         let within_limits = block_small thread names (level + 1) (count + 1) mid block within (omega (arith, shallow)) (omega (arith, lt)) begun in
-        read_on (inside ver whole names threads thread (at here (b ∷ outer) count)) place atomic_line ((mid ++ end_line ∷ ls) ++ end_line ∷ more) (inner_inside b outer count lt shallow)
+        read_on (inside ver whole names threads thread (at here (b ∷ outer) count)) place spelled_atomic ((mid ++ end_line ∷ ls) ++ end_line ∷ more) (inner_inside b outer count lt shallow)
         ∙ ap (all_contents place) (append_assoc mid (end_line ∷ ls) (end_line ∷ more))
         ∙ block_lines (level + 1) [] (count + 1) mid block within begun [] (b ∷ outer) (ls ++ end_line ∷ more) within_limits
         ∙ block_lines level (parts ++ block ∷ []) within ls tree total rest done outer more small
@@ -162,38 +162,38 @@ module _ (ver : Version) where
       let lt : length here < 4096 = omega (arith, few, length-append here (c ∷ cs)) in
       let place = inside ver whole names threads thread (at here (record { level = 0; done = []; parts = [] } ∷ []) 0) in
       let small = block_small thread names 0 0 mid tree total (omega arith) (omega arith) b in
-      read_on (inside ver whole names threads thread (at here [] 0)) place atomic_line ((mid ++ end_line ∷ ls) ++ more) (atomic_inside whole names threads thread here 0 lt)
+      read_on (inside ver whole names threads thread (at here [] 0)) place spelled_atomic ((mid ++ end_line ∷ ls) ++ more) (atomic_inside whole names threads thread here 0 lt)
       ∙ ap (all_contents place) (append_assoc mid (end_line ∷ ls) more)
       ∙ block_lines whole names threads thread here 0 [] 0 mid tree total b [] [] (ls ++ more) small
       ∙ say_read whole names threads thread (here ++ c ∷ []) ls cs more rest (subst (λ (x : List Command). length x ≤ 4096) (sym joined) few)
       ∙ ap (λ (x : List Command). all_contents (inside ver whole names threads thread (at x [] 0)) more) joined
 
   -- a further thread begins
-  thread_inside : (names : Names) (threads : List (List Command)) (thread next : ℕ) (here : List Command) → next ≡ thread + 1 → next < 16 → content_line (inside ver true names threads thread (at here [] 0)) thread_line ≡ Ok (inside ver true names (threads ++ here ∷ []) next (at [] [] 0))
+  thread_inside : (names : Names) (threads : List (List Command)) (thread next : ℕ) (here : List Command) → next ≡ thread + 1 → next < 16 → content_line (inside ver true names threads thread (at here [] 0)) spelled_thread ≡ Ok (inside ver true names (threads ++ here ∷ []) next (at [] [] 0))
   unfolding content_line worded_line opened_thread word_of structure_word
   thread_inside names threads thread next here e lt =
       let room : ltb (thread + 1) 16 ≡ true = lt-ltb (thread + 1) 16 (omega (arith, e, lt)) in
       rw (e, room) refl
 
   -- the first thread begins
-  thread_outside : (names : Names) → content_line (outside ver true names) thread_line ≡ Ok (inside ver true names [] 0 (at [] [] 0))
+  thread_outside : (names : Names) → content_line (outside ver true names) spelled_thread ≡ Ok (inside ver true names [] 0 (at [] [] 0))
   unfolding content_line worded_line opened_thread word_of structure_word
   thread_outside names = refl
 
   -- the lines are read to their end, with this script
-  record ToEnd (first : State) (ls : List Line) (s : Script) : Type 0 where
-    last : State
+  record ToEnd (first : ReadingState) (ls : List Line) (s : Script) : Type 0 where
+    last : ReadingState
     read : all_contents first ls ≡ Ok last
-    ended : ended last ≡ Ok last
+    ended : reading_ended last ≡ Ok last
     is : script_at last ≡ s
 
   -- the lines end in a thread
   inside_ended : (names : Names) (threads : List (List Command)) (thread : ℕ) (here : List Command) → ToEnd (inside ver true names threads thread (at here [] 0)) [] (record { limit = limit_of ver; objects = names; threads = threads ++ here ∷ [] })
-  unfolding ended
+  unfolding reading_ended
   inside_ended names threads thread here = record { last = inside ver true names threads thread (at here [] 0); read = refl; ended = refl; is = refl }
 
   outside_ended : (names : Names) → ToEnd (outside ver true names) [] (record { limit = limit_of ver; objects = names; threads = [] })
-  unfolding ended
+  unfolding reading_ended
   outside_ended names = record { last = outside ver true names; read = refl; ended = refl; is = refl }
 
   -- further threads are read
@@ -204,7 +204,7 @@ module _ (ver : Version) where
       let r = threads_read names (front ++ here ∷ []) next (next + 1) cs more threads refl rest in
       record {
         last = r.last;
-        read = read_on (inside ver true names front thread (at here [] 0)) (inside ver true names (front ++ here ∷ []) next (at [] [] 0)) thread_line (ls ++ more) (thread_inside names front thread next here e lt)
+        read = read_on (inside ver true names front thread (at here [] 0)) (inside ver true names (front ++ here ∷ []) next (at [] [] 0)) spelled_thread (ls ++ more) (thread_inside names front thread next here e lt)
             ∙ say_read true names (front ++ here ∷ []) next [] ls cs more says short
             ∙ r.read;
         ended = r.ended;
@@ -218,7 +218,7 @@ module _ (ver : Version) where
       let r = threads_read names [] 0 1 cs more threads refl rest in
       record {
         last = r.last;
-        read = read_on (outside ver true names) (inside ver true names [] 0 (at [] [] 0)) thread_line (ls ++ more) (thread_outside names) ∙ say_read true names [] 0 [] ls cs more says short ∙ r.read;
+        read = read_on (outside ver true names) (inside ver true names [] 0 (at [] [] 0)) spelled_thread (ls ++ more) (thread_outside names) ∙ say_read true names [] 0 [] ls cs more says short ∙ r.read;
         ended = r.ended;
         is = r.is;
       }
@@ -240,7 +240,7 @@ module _ (ver : Version) where
       ∙ declares_read whole (names ++ entry ∷ []) all ls more rest
 
 -- the header is read
-header_outside : (whole : Bool) → (content_line (opening whole) header ≡ Ok (outside version.New whole [])) × (content_line (opening whole) old_header ≡ Ok (outside version.Old whole []))
+header_outside : (whole : Bool) → (content_line (opening_state whole) header ≡ Ok (outside version.New whole [])) × (content_line (opening_state whole) old_header ≡ Ok (outside version.Old whole []))
 unfolding content_line header_line
 header_outside whole = (refl, refl)
 
@@ -250,22 +250,22 @@ unfolding word_of structure_word kind_of verb_of object_verb_of loc_word plain_l
 no_word = refl
 
 -- a limit is read
-limit_outside : (whole : Bool) (w : List ℕ) → is_number 1 MOST w ≡ true → content_line (outside version.New whole []) (limit_line w) ≡ Ok (outside (version.Limited (value_on 0 w)) whole [])
+limit_outside : (whole : Bool) (w : List ℕ) → is_number 1 MOST w ≡ true → content_line (outside version.New whole []) (spelled_limit w) ≡ Ok (outside (version.Limited (value_on 0 w)) whole [])
 unfolding content_line worded_line unknown_line limit_at positive_to number_to number
 limit_outside whole w e =
     let p = number_parts w e in
     rw (no_word, p.0, p.2, p.1) refl
 
 -- the first lines are read
-heading_read : (whole : Bool) (heading rest : List Line) (ver : Version) → Begins heading ver → all_contents (opening whole) (heading ++ rest) ≡ all_contents (outside ver whole []) rest
-heading_read whole _ rest _ Begins.old = read_on (opening whole) (outside version.Old whole []) old_header rest (header_outside whole).1
-heading_read whole _ rest _ Begins.new = read_on (opening whole) (outside version.New whole []) header rest (header_outside whole).0
+heading_read : (whole : Bool) (heading rest : List Line) (ver : Version) → Begins heading ver → all_contents (opening_state whole) (heading ++ rest) ≡ all_contents (outside ver whole []) rest
+heading_read whole _ rest _ Begins.old = read_on (opening_state whole) (outside version.Old whole []) old_header rest (header_outside whole).1
+heading_read whole _ rest _ Begins.new = read_on (opening_state whole) (outside version.New whole []) header rest (header_outside whole).0
 heading_read whole _ rest _ (Begins.limited w e) =
-    read_on (opening whole) (outside version.New whole []) header (limit_line w ∷ rest) (header_outside whole).0
-    ∙ read_on (outside version.New whole []) (outside (version.Limited (value_on 0 w)) whole []) (limit_line w) rest (limit_outside whole w e)
+    read_on (opening_state whole) (outside version.New whole []) header (spelled_limit w ∷ rest) (header_outside whole).0
+    ∙ read_on (outside version.New whole []) (outside (version.Limited (value_on 0 w)) whole []) (spelled_limit w) rest (limit_outside whole w e)
 
 -- a header and declarations are read
-pub front_read : (whole : Bool) (heading : List Line) (ver : Version) → Begins heading ver → (all : Names) (ls more : List Line) → Declare ver [] ls all → all_contents (opening whole) (heading ++ (ls ++ more)) ≡ all_contents (outside ver whole all) more
+pub front_read : (whole : Bool) (heading : List Line) (ver : Version) → Begins heading ver → (all : Names) (ls more : List Line) → Declare ver [] ls all → all_contents (opening_state whole) (heading ++ (ls ++ more)) ≡ all_contents (outside ver whole all) more
 front_read whole heading ver begins all ls more d = heading_read whole heading (ls ++ more) ver begins ∙ declares_read ver whole [] all ls more d
 
 -- what is spelled is read
@@ -273,8 +273,8 @@ pub spells_spelled : (bytes : List ℕ) (s : Script) → Spells bytes s → spel
 unfolding spelled
 spells_spelled bytes s p =
     let r = all_threads_read p.version s.objects p.threading s.threads p.threads in
-    let read = skipping (lines bytes) (opening true) ∙ ap (all_contents (opening true)) p.lines ∙ front_read true p.heading p.version p.begins s.objects p.declaring p.threading p.declares ∙ r.read in
-    rw (is_part (opening true) bytes r.last read r.ended) (ap (λ (x : Script). Ok x) (r.is ∙ (λ i. record { limit = sym p.limit i; objects = s.objects; threads = s.threads })))
+    let read = skipping (lines bytes) (opening_state true) ∙ ap (all_contents (opening_state true)) p.lines ∙ front_read true p.heading p.version p.begins s.objects p.declaring p.threading p.declares ∙ r.read in
+    rw (is_part (opening_state true) bytes r.last read r.ended) (ap (λ (x : Script). Ok x) (r.is ∙ (λ i. record { limit = sym p.limit i; objects = s.objects; threads = s.threads })))
 
 -- bytes spell at most one script
 pub spells_one : (bytes : List ℕ) (s t : Script) → Spells bytes s → Spells bytes t → s ≡ t

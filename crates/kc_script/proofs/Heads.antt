@@ -14,13 +14,13 @@ use Rattle.kc_script_lines.specs.declared.fault.Why.{Why}
 use Rattle.kc_script_lines.specs.declared.fault.Why.TheVariants.{Header, BadNumber, StrayWord, UnknownWord}
 use Rattle.kc_script.specs.FirstFault.{is_header, no_kinds}
 use Rattle.kc_script.specs.Version.{is_new, knows_limit, version_of}
-use Rattle.kc_script.specs.Reading.{State, no_names, can_limit, limit_line, unknown_line, header_line}
+use Rattle.kc_script.specs.Reading.{ReadingState, no_names, can_limit, limit_line, unknown_line, header_line}
 use Rattle.kc_script.specs.Spells.{Line}
 use Rattle.kc_script.specs.declared.reader.Version.{Version}
 use Rattle.kc_script.specs.declared.reader.Version.TheVariants as version
 use Rattle.kc_script_verbs.specs.Fields.{kinds_of}
 
-pub header_fault : (s : State) (line : Line) → Tested (header_line s line) ((is_header line, Header) ∷ [])
+pub header_fault : (s : ReadingState) (line : Line) → Tested (header_line s line) ((is_header line, Header) ∷ [])
 unfolding header_line
 header_fault s [] = record { same = refl }
 header_fault s (a ∷ []) = record { same = refl }
@@ -42,28 +42,28 @@ abbrev number_tests : List (List ℕ) → List (Bool × Why)
 number_tests args = count_tests 1 args ++ (is_number 1 MOST (word_at args 0), BadNumber) ∷ []
 
 -- what a limit's line makes of its number
-abbrev with_limit : State → ℕ → State
+abbrev with_limit : ReadingState → ℕ → ReadingState
 with_limit s n = record s { version = version.Limited n }
 
 -- its number, behind the tests of its place and of the number of its words
-abbrev limit_read : State → List (List ℕ) → Result State Why
+abbrev limit_read : ReadingState → List (List ℕ) → Result ReadingState Why
 limit_read s args = positive_to MOST (word_at args 0) >>= λ n. given (with_limit s n)
 
-limit_fault : (s : State) (args : List (List ℕ)) → Tested (limit_line s args) ((can_limit s, StrayWord) ∷ number_tests args)
+limit_fault : (s : ReadingState) (args : List (List ℕ)) → Tested (limit_line s args) ((can_limit s, StrayWord) ∷ number_tests args)
 unfolding limit_line
 limit_fault s args =
     then_fault (wants (can_limit s) StrayWord) (λ here. counted 1 args >>= λ one. limit_read s args) ((can_limit s, StrayWord) ∷ []) (number_tests args) (wants_fault _ _)
     (λ here e. then_fault (counted 1 args) (λ one. limit_read s args) (count_tests 1 args) ((is_number 1 MOST (word_at args 0), BadNumber) ∷ []) (counted_fault 1 args)
     (λ one f. made_fault (positive_to MOST (word_at args 0)) (with_limit s) _ (positive_fault MOST (word_at args 0))))
 
-pub unknown_fault : (s : State) (first : List ℕ) (args : List (List ℕ)) → Tested (unknown_line s first args) ((knows_limit s.version first, UnknownWord) ∷ (not (is_some s.thread) && no_kinds (kinds_of s.objects) && is_new s.version, StrayWord) ∷ number_tests args)
+pub unknown_fault : (s : ReadingState) (first : List ℕ) (args : List (List ℕ)) → Tested (unknown_line s first args) ((knows_limit s.version first, UnknownWord) ∷ (not (is_some s.thread) && no_kinds (kinds_of s.objects) && is_new s.version, StrayWord) ∷ number_tests args)
 unfolding unknown_line
 unknown_fault s first args =
     subst (λ (b : Bool). Tested (unknown_line s first args) ((knows_limit s.version first, UnknownWord) ∷ (not (is_some s.thread) && b && is_new s.version, StrayWord) ∷ number_tests args)) (names_same s.objects)
     (then_fault (wants (knows_limit s.version first) UnknownWord) (λ known. limit_line s args) ((knows_limit s.version first, UnknownWord) ∷ []) ((can_limit s, StrayWord) ∷ number_tests args) (wants_fault _ _) (λ known e. limit_fault s args))
 
 -- where no limit can stand, none is read
-pub no_limit : (s t : State) (first : List ℕ) (args : List (List ℕ)) → can_limit s ≡ false → unknown_line s first args ≡ Ok t → ⊥
+pub no_limit : (s t : ReadingState) (first : List ℕ) (args : List (List ℕ)) → can_limit s ≡ false → unknown_line s first args ≡ Ok t → ⊥
 unfolding unknown_line limit_line
 no_limit s t first args none e =
     let a = bind_ok (wants (knows_limit s.version first) UnknownWord) (λ known. limit_line s args) t e in
@@ -72,13 +72,13 @@ no_limit s t first args none e =
     cc
 
 -- what was read of a limit's line
-record LimitRead (s t : State) (args : List (List ℕ)) : Type 0 where
+record LimitRead (s t : ReadingState) (args : List (List ℕ)) : Type 0 where
   n : ℕ
   one : length args ≡ 1
   number : positive_to MOST (word_at args 0) ≡ Ok n
   is : with_limit s n ≡ t
 
-limit_comes : (s t : State) (args : List (List ℕ)) → limit_line s args ≡ Ok t → LimitRead s t args
+limit_comes : (s t : ReadingState) (args : List (List ℕ)) → limit_line s args ≡ Ok t → LimitRead s t args
 unfolding limit_line
 limit_comes s t args e =
     let a = bind_ok (wants (can_limit s) StrayWord) (λ here. counted 1 args >>= λ one. limit_read s args) t e in
@@ -86,7 +86,7 @@ limit_comes s t args e =
     let c = bind_ok (positive_to MOST (word_at args 0)) (λ n. given (with_limit s n)) t b.2 in
     record { n = c.0; one = counted_length 1 args b.0 b.1; number = c.1; is = ok_is _ _ c.2 }
 
-pub unknown_comes : (s t : State) (first : List ℕ) (args : List (List ℕ)) → unknown_line s first args ≡ Ok t → t ≡ record s { version = version.Limited (value_on 0 (word_at args 0)) }
+pub unknown_comes : (s t : ReadingState) (first : List ℕ) (args : List (List ℕ)) → unknown_line s first args ≡ Ok t → t ≡ record s { version = version.Limited (value_on 0 (word_at args 0)) }
 unfolding unknown_line
 unknown_comes s t first args e =
     let a = bind_ok (wants (knows_limit s.version first) UnknownWord) (λ known. limit_line s args) t e in
@@ -107,7 +107,7 @@ first_left true b e = refl
 first_left false b e = absurd cc
 
 -- a limit's line: its words
-pub unknown_is : (s t : State) (first : List ℕ) (args : List (List ℕ)) → unknown_line s first args ≡ Ok t → (first ≡ codes "limit") × (length args ≡ 1) × (is_number 1 MOST (word_at args 0) ≡ true)
+pub unknown_is : (s t : ReadingState) (first : List ℕ) (args : List (List ℕ)) → unknown_line s first args ≡ Ok t → (first ≡ codes "limit") × (length args ≡ 1) × (is_number 1 MOST (word_at args 0) ≡ true)
 unfolding unknown_line
 unknown_is s t first args e =
     let a = bind_ok (wants (knows_limit s.version first) UnknownWord) (λ known. limit_line s args) t e in

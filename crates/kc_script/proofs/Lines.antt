@@ -5,7 +5,7 @@ use Rattle.kc_script_lines.specs.Words.{words, lines}
 use Rattle.kc_script_lines.specs.declared.fault.ScriptError.{ScriptError}
 use Rattle.kc_script_lines.specs.declared.fault.ScriptError.TheVariants as error
 use Rattle.kc_script.specs.FirstFault.{Fault}
-use Rattle.kc_script.specs.Reading.{State, any_line, ended, nearest, atomics_next, at_line, then_read, read_from, Stops}
+use Rattle.kc_script.specs.Reading.{ReadingState, any_line, reading_ended, nearest_line, atomics_next, at_line, then_read, read_from, ReadingStops}
 
 -- the lines of what is left, where something is
 abbrev pub lines_left : {X : Type 0} → (X → List ℕ) → Option X → List (List ℕ)
@@ -26,25 +26,25 @@ pub fewer : {X : Type 0} (seen : X → List ℕ) (bytes : List ℕ) (rest : Opti
 fewer seen bytes None h = omega arith
 fewer seen bytes (Some x) h = omega (arith, h)
 
-module _ (bytes first : List ℕ) (rest line : List (List ℕ)) (n : ℕ) (s : State) (atomics : List ℕ) (total : Result State Fault) (is_cut : lines bytes ≡ first ∷ rest) (is_split : line ≡ words first) (so_far : read_from s atomics n (lines bytes) ≡ total) where
-  abbrev later : State → Result State Fault
+module _ (bytes first : List ℕ) (rest line : List (List ℕ)) (n : ℕ) (s : ReadingState) (atomics : List ℕ) (total : Result ReadingState Fault) (is_cut : lines bytes ≡ first ∷ rest) (is_split : line ≡ words first) (so_far : read_from s atomics n (lines bytes) ≡ total) where
+  abbrev later : ReadingState → Result ReadingState Fault
   later next = read_from next (atomics_next s.begun atomics n line) (n + 1) rest
 
   -- the first line, and the rest
-  here : total ≡ then_read (at_line (nearest atomics) n (any_line s line)) later
+  here : total ≡ then_read (at_line (nearest_line atomics) n (any_line s line)) later
   unfolding read_from
-  here = sym so_far ∙ ap (read_from s atomics n) is_cut ∙ ap (λ (ws : List (List ℕ)). then_read (at_line (nearest atomics) n (any_line s ws)) (λ next. read_from next (atomics_next s.begun atomics n ws) (n + 1) rest)) (sym is_split)
+  here = sym so_far ∙ ap (read_from s atomics n) is_cut ∙ ap (λ (ws : List (List ℕ)). then_read (at_line (nearest_line atomics) n (any_line s ws)) (λ next. read_from next (atomics_next s.begun atomics n ws) (n + 1) rest)) (sym is_split)
 
   -- a line was read, and the rest is still to be read
-  pub goes_on : (next : State) → at_line (nearest atomics) n (any_line s line) ≡ Ok next → later next ≡ total
-  goes_on next e = sym (here ∙ ap (λ (r : Result State Fault). then_read r later) e)
+  pub goes_on : (next : ReadingState) → at_line (nearest_line atomics) n (any_line s line) ≡ Ok next → later next ≡ total
+  goes_on next e = sym (here ∙ ap (λ (r : Result ReadingState Fault). then_read r later) e)
 
   -- what is wrong with a line is what is wrong with all
-  pub ends : (e : ScriptError) → Stops e (at_line (nearest atomics) n (any_line s line)) → Stops e total
+  pub ends : (e : ScriptError) → ReadingStops e (at_line (nearest_line atomics) n (any_line s line)) → ReadingStops e total
   ends error.NoMemory h = tt
-  ends (error.Fault at why) h = here ∙ ap (λ (r : Result State Fault). then_read r later) h
+  ends (error.Fault at why) h = here ∙ ap (λ (r : Result ReadingState Fault). then_read r later) h
 
 -- no line is left
-pub is_done : (n : ℕ) (s : State) (atomics : List ℕ) (total : Result State Fault) → read_from s atomics n [] ≡ total → total ≡ at_line (nearest atomics) 1 (ended s)
+pub is_done : (n : ℕ) (s : ReadingState) (atomics : List ℕ) (total : Result ReadingState Fault) → read_from s atomics n [] ≡ total → total ≡ at_line (nearest_line atomics) 1 (reading_ended s)
 unfolding read_from
 is_done n s atomics total so_far = sym so_far

@@ -2,7 +2,7 @@
 use Rattle.std.proofs.Common.{◌≡◌, ℕ, ◌+◌, Bool, true, false, not, List, [], ◌∷◌, Result, Ok, Err, refl, sym, ap, subst, ◌∙◌}
 use Rattle.kc_script.specs.Blocks.{in_block}
 use Rattle.kc_script.specs.FirstFault.{Fault}
-use Rattle.kc_script.specs.Reading.{State, any_line, all_lines, no_block, ended, at_line, then_read, nearest, atomics_next, read_from, part_read}
+use Rattle.kc_script.specs.Reading.{ReadingState, any_line, all_lines, no_block, reading_ended, at_line, then_read, nearest_line, atomics_next, read_from, part_read}
 use Rattle.kc_script_lines.proofs.Given.{given, bind_ok, wants_ok, ok_is}
 use Rattle.kc_script_lines.specs.Tests.{◌>>=◌, wants}
 use Rattle.kc_script_lines.specs.Words.{lines, words}
@@ -28,20 +28,20 @@ without_line : {A : Type 0} (near n : ℕ) (r : Result A Why) → without (at_li
 without_line near n (Ok x) = refl
 without_line near n (Err why) = refl
 
-unnumbered : (texts : List (List ℕ)) (s : State) (atomics : List ℕ) (n : ℕ) → without (read_from s atomics n texts) ≡ (all_lines s texts >>= ended)
+unnumbered : (texts : List (List ℕ)) (s : ReadingState) (atomics : List ℕ) (n : ℕ) → without (read_from s atomics n texts) ≡ (all_lines s texts >>= reading_ended)
 unfolding read_from all_lines
-unnumbered [] s atomics n = without_line (nearest atomics) 1 (ended s)
+unnumbered [] s atomics n = without_line (nearest_line atomics) 1 (reading_ended s)
 unnumbered (text ∷ texts) s atomics n = by (any_line s (words text)) (λ next. unnumbered texts next (atomics_next s.begun atomics n (words text)) (n + 1)) where
-  by : (r : Result State Why) → ((next : State) → without (read_from next (atomics_next s.begun atomics n (words text)) (n + 1) texts) ≡ (all_lines next texts >>= ended)) → without (then_read (at_line (nearest atomics) n r) (λ next. read_from next (atomics_next s.begun atomics n (words text)) (n + 1) texts)) ≡ ((r >>= λ next. all_lines next texts) >>= ended)
+  by : (r : Result ReadingState Why) → ((next : ReadingState) → without (read_from next (atomics_next s.begun atomics n (words text)) (n + 1) texts) ≡ (all_lines next texts >>= reading_ended)) → without (then_read (at_line (nearest_line atomics) n r) (λ next. read_from next (atomics_next s.begun atomics n (words text)) (n + 1) texts)) ≡ ((r >>= λ next. all_lines next texts) >>= reading_ended)
   by (Ok next) more = more next
   by (Err why) more = refl
 
 -- what a part comes to, without numbers
-abbrev plain : State → List ℕ → Result State Why
-plain s bytes = all_lines s (lines bytes) >>= ended
+abbrev plain : ReadingState → List ℕ → Result ReadingState Why
+plain s bytes = all_lines s (lines bytes) >>= reading_ended
 
 -- a part was read to its end, where no block is open
-pub record IsRead (s : State) (bytes : List ℕ) (t : State) : Type 0 where
+pub record IsRead (s : ReadingState) (bytes : List ℕ) (t : ReadingState) : Type 0 where
   pub all : all_lines s (lines bytes) ≡ Ok t
   pub begun : t.begun ≡ true
   pub shut : in_block t.place.open_blocks ≡ false
@@ -50,13 +50,13 @@ not_true : (b : Bool) → not b ≡ true → b ≡ false
 not_true true e = absurd cc
 not_true false e = refl
 
-record IsEnded (s t : State) : Type 0 where
+record IsEnded (s t : ReadingState) : Type 0 where
   same : s ≡ t
   begun : s.begun ≡ true
   shut : in_block s.place.open_blocks ≡ false
 
-ended_shut : (s t : State) → ended s ≡ Ok t → IsEnded s t
-unfolding ended
+ended_shut : (s t : ReadingState) → reading_ended s ≡ Ok t → IsEnded s t
+unfolding reading_ended
 ended_shut s t e =
     let last = λ (x : Unit {0}). given s in
     let a = bind_ok (wants s.begun Header) (λ (x : Unit {0}). no_block s >>= last) t e in
@@ -67,11 +67,11 @@ ended_shut s t e =
       shut = not_true (in_block s.place.open_blocks) (wants_ok (not (in_block s.place.open_blocks)) UnclosedBlock b.0 b.1);
     }
 
-pub part_is : (s : State) (bytes : List ℕ) (t : State) → part_read s bytes ≡ Ok t → IsRead s bytes t
+pub part_is : (s : ReadingState) (bytes : List ℕ) (t : ReadingState) → part_read s bytes ≡ Ok t → IsRead s bytes t
 unfolding part_read
 part_is s bytes t e =
     let p : plain s bytes ≡ Ok t = sym (unnumbered (lines bytes) s [] 1) ∙ ap without e in
-    let a = bind_ok (all_lines s (lines bytes)) ended t p in
+    let a = bind_ok (all_lines s (lines bytes)) reading_ended t p in
     let b = ended_shut a.0 t a.2 in
     subst (IsRead s bytes) b.same (record { all = a.1; begun = b.begun; shut = b.shut })
 
@@ -79,6 +79,6 @@ ok_with : {A : Type 0} (r : Result A Fault) (x : A) → without r ≡ Ok x → r
 ok_with (Ok y) x e = let same : y ≡ x = cc in ap (λ z. Ok z) same
 ok_with (Err fault) x e = absurd cc
 
-pub is_part : (s : State) (bytes : List ℕ) (t : State) → all_lines s (lines bytes) ≡ Ok t → ended t ≡ Ok t → part_read s bytes ≡ Ok t
+pub is_part : (s : ReadingState) (bytes : List ℕ) (t : ReadingState) → all_lines s (lines bytes) ≡ Ok t → reading_ended t ≡ Ok t → part_read s bytes ≡ Ok t
 unfolding part_read
-is_part s bytes t e f = ok_with (read_from s [] 1 (lines bytes)) t (unnumbered (lines bytes) s [] 1 ∙ ap (λ (r : Result State Why). r >>= ended) e ∙ f)
+is_part s bytes t e f = ok_with (read_from s [] 1 (lines bytes)) t (unnumbered (lines bytes) s [] 1 ∙ ap (λ (r : Result ReadingState Why). r >>= reading_ended) e ∙ f)

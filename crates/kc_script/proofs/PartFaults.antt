@@ -14,28 +14,28 @@ use Rattle.kc_script.proofs.Kept.{file_makes}
 use Rattle.kc_script.proofs.Numbered.{part_is}
 use Rattle.kc_script.proofs.PartLines.{Stands, setup_read, file_read, parts_spelled, spelled_is_read}
 use Rattle.kc_script.proofs.Took.{outside, inside}
-use Rattle.kc_script.specs.FirstFault.{Fault, Context, start, next, first_fault_from}
+use Rattle.kc_script.specs.FirstFault.{Fault, Context, start, next_context, first_fault_from}
 use Rattle.kc_script.specs.Parts.{SpellsParts, PartFault, in_part, behind_lines, in_file, first_fault_in_files, first_fault_in_parts, PartsSpellNone, PartsRefused}
-use Rattle.kc_script.specs.Reading.{State, opening, nowhere, begun_thread, script_at, content_line, any_line, all_lines, atomics_after, then_read, part_read, of_part, files_read, parts_read, spelled_parts, PartsSpelled}
+use Rattle.kc_script.specs.Reading.{ReadingState, opening_state, nowhere, begun_thread, script_at, content_line, any_line, all_lines, atomics_after, then_read, part_read, of_part, files_read, parts_read, spelled_parts, PartsSpelled}
 use Rattle.kc_script.specs.declared.reader.Version.{Version}
 
 -- ---- behind a setup
 
 -- the context that lines have come to, up to the lines of open blocks
-abbrev IsBehind : Context → State → Type 0
+abbrev IsBehind : Context → ReadingState → Type 0
 IsBehind c t = (atomics : List ℕ) × (c ≡ context_of t atomics)
 
-behind_is : (texts : List (List ℕ)) (s t : State) (atomics : List ℕ) (n : ℕ) → all_lines s texts ≡ Ok t → IsBehind (behind_lines (context_of s atomics) n texts) t
+behind_is : (texts : List (List ℕ)) (s t : ReadingState) (atomics : List ℕ) (n : ℕ) → all_lines s texts ≡ Ok t → IsBehind (behind_lines (context_of s atomics) n texts) t
 unfolding all_lines any_line behind_lines
-behind_is [] s t atomics n e = (atomics, ap (λ (x : State). context_of x atomics) (ok_is _ _ e))
+behind_is [] s t atomics n e = (atomics, ap (λ (x : ReadingState). context_of x atomics) (ok_is _ _ e))
 behind_is (text ∷ texts) s t atomics n e =
     let a = bind_ok (any_line s (words text)) (λ after. all_lines after texts) t e in
     by a.0 (is_skipped (words text)) a.1 (λ after. behind_is texts a.0 t after (n + 1) a.2)
   where
-    by : (middle : State) (b : Bool) → cond b (given s) (content_line s (words text)) ≡ Ok middle → ((after : List ℕ) → IsBehind (behind_lines (context_of middle after) (n + 1) texts) t) → IsBehind (behind_lines (cond b (context_of s atomics) (next (context_of s atomics) n (words text))) (n + 1) texts) t
+    by : (middle : ReadingState) (b : Bool) → cond b (given s) (content_line s (words text)) ≡ Ok middle → ((after : List ℕ) → IsBehind (behind_lines (context_of middle after) (n + 1) texts) t) → IsBehind (behind_lines (cond b (context_of s atomics) (next_context (context_of s atomics) n (words text))) (n + 1) texts) t
     by middle true f more =
         let r = more atomics in
-        (r.0, ap (λ (x : State). behind_lines (context_of x atomics) (n + 1) texts) (ok_is _ _ f) ∙ r.1)
+        (r.0, ap (λ (x : ReadingState). behind_lines (context_of x atomics) (n + 1) texts) (ok_is _ _ f) ∙ r.1)
     by middle false f more =
         let r = more (atomics_after s.begun atomics n (words text)) in
         (r.0, ap (λ (c : Context). behind_lines c (n + 1) texts) (sym (line_comes s middle atomics n (words text) f)) ∙ r.1)
@@ -44,11 +44,11 @@ behind_is (text ∷ texts) s t atomics n e =
 abbrev behind : Version → Names → Context
 behind ver names = context_of (outside ver false names) []
 
-setup_behind : (setup : List ℕ) (t : State) (ver : Version) (names : Names) → part_read (opening false) setup ≡ Ok t → outside ver false names ≡ t → behind_lines (start false) 1 (lines setup) ≡ behind ver names
+setup_behind : (setup : List ℕ) (t : ReadingState) (ver : Version) (names : Names) → part_read (opening_state false) setup ≡ Ok t → outside ver false names ≡ t → behind_lines (start false) 1 (lines setup) ≡ behind ver names
 unfolding next_from
 setup_behind setup t ver names e f =
-    let r = behind_is (lines setup) (opening false) t [] 1 (part_is (opening false) setup t e).all in
-    r.1 ∙ ap (λ (x : State). context_of x r.0) (sym f)
+    let r = behind_is (lines setup) (opening_state false) t [] 1 (part_is (opening_state false) setup t e).all in
+    r.1 ∙ ap (λ (x : ReadingState). context_of x r.0) (sym f)
 
 -- ---- files
 
@@ -60,13 +60,13 @@ part_or part (Err fault) first f others e more = ap (λ (o : Option Fault). opti
 file_first : (ver : Version) (names : Names) (threads : List (List Command)) (thread : ℕ) (file : List ℕ) → fault_at (part_read (inside ver false names threads thread nowhere) file) ≡ first_fault_from (in_file (behind ver names) thread) 1 (lines file)
 file_first ver names threads thread file = part_first (inside ver false names threads thread nowhere) (file_makes ver names threads thread) refl file
 
-files_first : (ver : Version) (files : List (List ℕ)) (names : Names) (threads : List (List Command)) (thread : ℕ) (s : State) → Stands ver s names threads thread → fault_at (files_read s thread files) ≡ first_fault_in_files (behind ver names) thread files
+files_first : (ver : Version) (files : List (List ℕ)) (names : Names) (threads : List (List Command)) (thread : ℕ) (s : ReadingState) → Stands ver s names threads thread → fault_at (files_read s thread files) ≡ first_fault_in_files (behind ver names) thread files
 unfolding files_read first_fault_in_files
 files_first ver [] names threads thread s stands = refl
 files_first ver (file ∷ files) names threads thread s stands =
-    part_or (thread + 1) (part_read (begun_thread s thread) file) (first_fault_from (in_file (behind ver names) thread) 1 (lines file)) (λ (t : State). files_read t (thread + 1) files) (first_fault_in_files (behind ver names) (thread + 1) files)
-    (ap (λ (x : State). fault_at (part_read x file)) stands.ready ∙ file_first ver names threads thread file)
-    (λ t e. let read = file_read ver names threads thread file t (ap (λ (x : State). part_read x file) (sym stands.ready) ∙ e) in
+    part_or (thread + 1) (part_read (begun_thread s thread) file) (first_fault_from (in_file (behind ver names) thread) 1 (lines file)) (λ (t : ReadingState). files_read t (thread + 1) files) (first_fault_in_files (behind ver names) (thread + 1) files)
+    (ap (λ (x : ReadingState). fault_at (part_read x file)) stands.ready ∙ file_first ver names threads thread file)
+    (λ t e. let read = file_read ver names threads thread file t (ap (λ (x : ReadingState). part_read x file) (sym stands.ready) ∙ e) in
     files_first ver files names (threads ++ read.commands ∷ []) (thread + 1) t read.stands)
 
 -- ---- all parts
@@ -74,7 +74,7 @@ files_first ver (file ∷ files) names threads thread s stands =
 reads_first : (setup : List ℕ) (files : List (List ℕ)) → fault_at (parts_read setup files) ≡ first_fault_in_parts setup files
 unfolding parts_read first_fault_in_parts
 reads_first setup files =
-    part_or 0 (part_read (opening false) setup) (first_fault_from (start false) 1 (lines setup)) (λ (s : State). files_read s 0 files) (first_fault_in_files (behind_lines (start false) 1 (lines setup)) 0 files)
+    part_or 0 (part_read (opening_state false) setup) (first_fault_from (start false) 1 (lines setup)) (λ (s : ReadingState). files_read s 0 files) (first_fault_in_files (behind_lines (start false) 1 (lines setup)) 0 files)
     (opening_first false setup)
     (λ t e. let r = setup_read setup t e in
     files_first r.ver files r.names [] 0 t r.stands ∙ ap (λ (c : Context). first_fault_in_files c 0 files) (sym (setup_behind setup t r.ver r.names e r.ends)))
@@ -82,7 +82,7 @@ reads_first setup files =
 parts_first : (setup : List ℕ) (files : List (List ℕ)) → fault_at (spelled_parts setup files) ≡ first_fault_in_parts setup files
 unfolding spelled_parts
 parts_first setup files = by (parts_read setup files) ∙ reads_first setup files where
-  by : (r : Result State PartFault) → fault_at (then_read r (λ s. Ok (script_at s))) ≡ fault_at r
+  by : (r : Result ReadingState PartFault) → fault_at (then_read r (λ s. Ok (script_at s))) ≡ fault_at r
   by (Ok s) = refl
   by (Err fault) = refl
 

@@ -39,7 +39,7 @@ use Rattle.kc_script.specs.declared.reader.Thread.{Thread}
 
 -- ---- what the lines so far have declared and said
 
-pub record State : Type 0 where
+pub record ReadingState : Type 0 where
   -- a whole script is read, in which threads begin
   pub whole : Bool
   pub begun : Bool
@@ -57,58 +57,58 @@ lists vs = map (λ v. v.items) vs
 abbrev pub open_of : Open → OpenBlock
 open_of b = record { level = b.level; done = lists b.done.items; parts = b.parts.items }
 
-abbrev pub place_of : Thread → Place
-place_of t = record { here = t.here.items; open_blocks = reverse (map open_of t.open_blocks.items); count = t.count }
+abbrev pub place_of_thread : Thread → Place
+place_of_thread t = record { here = t.here.items; open_blocks = reverse (map open_of t.open_blocks.items); count = t.count }
 
-abbrev pub state_of : Reader → State
-state_of r = record {
+abbrev pub reader_state : Reader → ReadingState
+reader_state r = record {
   whole = r.whole;
   begun = r.begun;
   version = r.version;
   objects = names_of r.objects;
   threads = map (λ commands. commands.items) r.threads.items;
   thread = r.thread;
-  place = place_of r.place;
+  place = place_of_thread r.place;
 }
 
 abbrev pub nowhere : Place
 nowhere = record { here = []; open_blocks = []; count = 0 }
 
-abbrev pub opening : Bool → State
-opening whole = record { whole = whole; begun = false; version = version.Old; objects = []; threads = []; thread = None; place = nowhere }
+abbrev pub opening_state : Bool → ReadingState
+opening_state whole = record { whole = whole; begun = false; version = version.Old; objects = []; threads = []; thread = None; place = nowhere }
 
 -- ---- lines
 
-abbrev pub with_object : State → List ℕ × Object → State
+abbrev pub with_object : ReadingState → List ℕ × Object → ReadingState
 with_object s entry = record s { objects = s.objects ++ entry ∷ [] }
 
-unfoldable pub declared_line : State → Kind → List (List ℕ) → Result State Why
+unfoldable pub declared_line : ReadingState → Kind → List (List ℕ) → Result ReadingState Why
 declared_line s k args = do
   outside ← wants (not (is_some s.thread)) StrayWord
   entry ← declare s.objects k args
   Ok (with_object s entry)
 
 -- what follows at a new place in the thread
-abbrev pub placed : State → Result Place Why → Result State Why
-placed s r = r >>= λ p. Ok (record s { place = p })
+abbrev pub at_new_place : ReadingState → Result Place Why → Result ReadingState Why
+at_new_place s r = r >>= λ p. Ok (record s { place = p })
 
-unfoldable pub said_line : State → Verb → List (List ℕ) → Result State Why
+unfoldable pub said_line : ReadingState → Verb → List (List ℕ) → Result ReadingState Why
 said_line s v args = do
   thread ← found s.thread StrayWord
   o ← say thread s.objects v args
-  placed s (op_line s.place o)
+  at_new_place s (op_line s.place o)
 
-unfoldable pub begun_block : State → List (List ℕ) → Result State Why
+unfoldable pub begun_block : ReadingState → List (List ℕ) → Result ReadingState Why
 begun_block s args = do
   thread ← found s.thread StrayWord
-  placed s (atomic_line s.place args)
+  at_new_place s (atomic_line s.place args)
 
 -- the open thread, where there is one, put behind the threads
-abbrev pub closed : State → State
+abbrev pub closed : ReadingState → ReadingState
 closed s = record s { threads = if is_some s.thread then s.threads ++ s.place.here ∷ [] else s.threads; place = nowhere }
 
 -- the thread of this number has begun
-abbrev pub begun_thread : State → ℕ → State
+abbrev pub begun_thread : ReadingState → ℕ → ReadingState
 begun_thread s thread = record (closed s) { thread = Some thread }
 
 -- the number of the thread that begins next
@@ -117,10 +117,10 @@ next_thread None = 0
 next_thread (Some n) = n + 1
 
 -- the blocks of the open thread have ended
-abbrev pub no_block : State → Result (Unit {0}) Why
+abbrev pub no_block : ReadingState → Result (Unit {0}) Why
 no_block s = wants (not (in_block s.place.open_blocks)) UnclosedBlock
 
-unfoldable pub thread_line : State → List (List ℕ) → Result State Why
+unfoldable pub thread_line : ReadingState → List (List ℕ) → Result ReadingState Why
 thread_line s args = do
   ended ← no_block s
   here ← wants s.whole StrayWord
@@ -133,10 +133,10 @@ no_names [] = true
 no_names (entry ∷ names) = false
 
 -- the limit stands directly behind the header of version 2
-abbrev pub can_limit : State → Bool
+abbrev pub can_limit : ReadingState → Bool
 can_limit s = not (is_some s.thread) && no_names s.objects && is_new s.version
 
-unfoldable pub limit_line : State → List (List ℕ) → Result State Why
+unfoldable pub limit_line : ReadingState → List (List ℕ) → Result ReadingState Why
 limit_line s args = do
   here ← wants (can_limit s) StrayWord
   one ← counted 1 args
@@ -144,19 +144,19 @@ limit_line s args = do
   Ok (record s { version = version.Limited n })
 
 -- a line whose first word is no other
-unfoldable pub unknown_line : State → List ℕ → List (List ℕ) → Result State Why
+unfoldable pub unknown_line : ReadingState → List ℕ → List (List ℕ) → Result ReadingState Why
 unknown_line s first args = wants (knows_limit s.version first) UnknownWord >>= λ known. limit_line s args
 
-unfoldable pub worded_line : State → List ℕ → Option Word → List (List ℕ) → Result State Why
+unfoldable pub worded_line : ReadingState → List ℕ → Option Word → List (List ℕ) → Result ReadingState Why
 worded_line s first None args = unknown_line s first args
 worded_line s first (Some word.Thread) args = thread_line s args
 worded_line s first (Some word.Atomic) args = begun_block s args
-worded_line s first (Some word.Or) args = placed s (or_at s.place s.place.open_blocks args)
-worded_line s first (Some word.End) args = placed s (end_at s.place s.place.open_blocks args)
+worded_line s first (Some word.Or) args = at_new_place s (or_at s.place s.place.open_blocks args)
+worded_line s first (Some word.End) args = at_new_place s (end_at s.place s.place.open_blocks args)
 worded_line s first (Some (word.Declare k)) args = declared_line s k args
 worded_line s first (Some (word.Say v)) args = said_line s v args
 
-unfoldable pub header_line : State → List (List ℕ) → Result State Why
+unfoldable pub header_line : ReadingState → List (List ℕ) → Result ReadingState Why
 header_line s words = do
   count ← wants (length words == 2) Header
   first ← wants (bytes_eq (word_at words 0) (codes "kcas")) Header
@@ -164,27 +164,27 @@ header_line s words = do
   Ok (record s { begun = true; version = v })
 
 -- a line that isn't skipped
-unfoldable pub content_line : State → List (List ℕ) → Result State Why
+unfoldable pub content_line : ReadingState → List (List ℕ) → Result ReadingState Why
 content_line s [] = Err UnknownWord
 content_line s (first ∷ args) = if s.begun then worded_line s first (word_in s.version (word_of first)) args else header_line s (first ∷ args)
 
-unfoldable pub any_line : State → List (List ℕ) → Result State Why
+unfoldable pub any_line : ReadingState → List (List ℕ) → Result ReadingState Why
 any_line s words = if is_skipped words then Ok s else content_line s words
 
 -- the lines in turn
-unfoldable pub all_lines : State → List (List ℕ) → Result State Why
+unfoldable pub all_lines : ReadingState → List (List ℕ) → Result ReadingState Why
 all_lines s [] = Ok s
 all_lines s (text ∷ texts) = any_line s (words text) >>= λ next. all_lines next texts
 
 -- the lines may end here
-unfoldable pub ended : State → Result State Why
-ended s = do
+unfoldable pub reading_ended : ReadingState → Result ReadingState Why
+reading_ended s = do
   begun ← wants s.begun Header
   none ← no_block s
   Ok s
 
 -- the script that was read
-abbrev pub script_at : State → Script
+abbrev pub script_at : ReadingState → Script
 script_at s = record { limit = limit_of s.version; objects = s.objects; threads = (closed s).threads }
 
 -- ---- with the numbers of lines
@@ -204,9 +204,9 @@ abbrev pub atomics_next : Bool → List ℕ → ℕ → List (List ℕ) → List
 atomics_next begun atomics n words = if is_skipped words then atomics else atomics_after begun atomics n words
 
 -- the first of the lines
-abbrev pub nearest : List ℕ → ℕ
-nearest [] = 0
-nearest (line ∷ atomics) = line
+abbrev pub nearest_line : List ℕ → ℕ
+nearest_line [] = 0
+nearest_line (line ∷ atomics) = line
 
 -- the line of what is wrong, with the line of the innermost block and the line that is read
 abbrev pub place_of_fault : ℕ → ℕ → Why → ℕ
@@ -222,16 +222,16 @@ then_read (Ok x) f = f x
 then_read (Err fault) f = Err fault
 
 -- what the lines come to from this one on, with this number, where blocks of these lines are open
-unfoldable pub read_from : State → List ℕ → ℕ → List (List ℕ) → Result State Fault
-read_from s atomics n [] = at_line (nearest atomics) 1 (ended s)
-read_from s atomics n (text ∷ texts) = then_read (at_line (nearest atomics) n (any_line s (words text))) (λ next. read_from next (atomics_next s.begun atomics n (words text)) (n + 1) texts)
+unfoldable pub read_from : ReadingState → List ℕ → ℕ → List (List ℕ) → Result ReadingState Fault
+read_from s atomics n [] = at_line (nearest_line atomics) 1 (reading_ended s)
+read_from s atomics n (text ∷ texts) = then_read (at_line (nearest_line atomics) n (any_line s (words text))) (λ next. read_from next (atomics_next s.begun atomics n (words text)) (n + 1) texts)
 
 -- what a part comes to
-unfoldable pub part_read : State → List ℕ → Result State Fault
+unfoldable pub part_read : ReadingState → List ℕ → Result ReadingState Fault
 part_read s bytes = read_from s [] 1 (lines bytes)
 
 unfoldable pub spelled : List ℕ → Result Script Fault
-spelled bytes = then_read (part_read (opening true) bytes) (λ s. Ok (script_at s))
+spelled bytes = then_read (part_read (opening_state true) bytes) (λ s. Ok (script_at s))
 
 -- ---- parts
 
@@ -240,13 +240,13 @@ of_part part (Ok x) = Ok x
 of_part part (Err fault) = Err (part, fault)
 
 -- what the files come to, from this thread's on
-unfoldable pub files_read : State → ℕ → List (List ℕ) → Result State PartFault
+unfoldable pub files_read : ReadingState → ℕ → List (List ℕ) → Result ReadingState PartFault
 files_read s thread [] = Ok s
 files_read s thread (file ∷ files) = then_read (of_part (thread + 1) (part_read (begun_thread s thread) file)) (λ next. files_read next (thread + 1) files)
 
 -- a setup, and then files
-unfoldable pub parts_read : List ℕ → List (List ℕ) → Result State PartFault
-parts_read setup files = then_read (of_part 0 (part_read (opening false) setup)) (λ s. files_read s 0 files)
+unfoldable pub parts_read : List ℕ → List (List ℕ) → Result ReadingState PartFault
+parts_read setup files = then_read (of_part 0 (part_read (opening_state false) setup)) (λ s. files_read s 0 files)
 
 unfoldable pub spelled_parts : List ℕ → List (List ℕ) → Result Script PartFault
 spelled_parts setup files = then_read (parts_read setup files) (λ s. Ok (script_at s))
@@ -259,24 +259,24 @@ complained near n (complaint.Here why) = error.Fault (place_of_fault near n why)
 complained near n complaint.NoMemory = error.NoMemory
 
 -- it stopped at this fault, or for want of memory
-abbrev pub Stops : {A : Type 0} → ScriptError → Result A Fault → Type 0
-Stops (error.Fault line why) read = read ≡ Err (line, why)
-Stops error.NoMemory read = Unit {0}
+abbrev pub ReadingStops : {A : Type 0} → ScriptError → Result A Fault → Type 0
+ReadingStops (error.Fault line why) read = read ≡ Err (line, why)
+ReadingStops error.NoMemory read = Unit {0}
 
 -- it came to this, or stopped
-abbrev pub Comes : {X A : Type 0} → A → Result X ScriptError → Result A Fault → Type 0
-Comes new (Ok x) read = read ≡ Ok new
-Comes new (Err e) read = Stops e read
+abbrev pub ReadingComes : {X A : Type 0} → A → Result X ScriptError → Result A Fault → Type 0
+ReadingComes new (Ok x) read = read ≡ Ok new
+ReadingComes new (Err e) read = ReadingStops e read
 
 -- what it gave, seen by view
 abbrev pub Spelled : {X A : Type 0} → (X → A) → Result X ScriptError → Result A Fault → Type 0
 Spelled view (Ok x) read = read ≡ Ok (view x)
-Spelled view (Err e) read = Stops e read
+Spelled view (Err e) read = ReadingStops e read
 
 -- the lines were read up to their end, which is still to be read, or it stopped
-abbrev pub Ends : {X : Type 0} → State → List ℕ → Result X ScriptError → Result State Fault → Type 0
-Ends new atomics (Ok x) read = read ≡ at_line (nearest atomics) 1 (ended new)
-Ends new atomics (Err e) read = Stops e read
+abbrev pub ReadingEnds : {X : Type 0} → ReadingState → List ℕ → Result X ScriptError → Result ReadingState Fault → Type 0
+ReadingEnds new atomics (Ok x) read = read ≡ at_line (nearest_line atomics) 1 (reading_ended new)
+ReadingEnds new atomics (Err e) read = ReadingStops e read
 
 -- a complaint in this part
 abbrev pub in_a_part : ℕ → ScriptError → PartError

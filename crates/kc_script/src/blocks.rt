@@ -2,9 +2,9 @@
 
 ghost use Rattle.std.specs.Prelude.{◌≡◌, ◌≤◌, ◌∷◌, [], reverse, map, IfOk, OnOk, IfSome, IfNone, Ok};
 ghost use Rattle.kc_term.specs.Tree.{op, seq, first, trees};
-ghost use Rattle.kc_script_lines.specs.Gives.{Gives, Reads, Reaches};
+ghost use Rattle.kc_script_lines.specs.Gives.{GivesAsGrammar, ReadsAsGrammar, Reaches};
 ghost use Rattle.kc_script.specs.Blocks.{good, sequence, either, nest, block_of, in_block, counted_up, with_op, with_block, op_line, level_here, atomic_line, or_at, end_at};
-ghost use Rattle.kc_script.specs.Reading.{lists, open_of, place_of, nowhere};
+ghost use Rattle.kc_script.specs.Reading.{lists, open_of, place_of_thread, nowhere};
 
 use crate::reader::{Open, Thread};
 use kc_script_bundle::{Command, MOST_COMMANDS, Op};
@@ -18,7 +18,7 @@ const MOST_LEVEL: u32 = 8;
 
 /// No line of the thread was read.
 pub fn begin_thread(alloc: Global) -> Thread
-    ensures { place_of result ≡ nowhere }
+    ensures { place_of_thread result ≡ nowhere }
 {
     Thread {
         here: Vec::new(alloc),
@@ -29,7 +29,7 @@ pub fn begin_thread(alloc: Global) -> Thread
 
 #[tactic(auto, unfolding(crate::specs::Blocks::sequence))]
 fn sequence(parts: Vec<Term<Op>>) -> Result<Term<Op>, Why>
-    ensures { Reads (λ t. t) result (sequence parts.items) }
+    ensures { ReadsAsGrammar (λ t. t) result (sequence parts.items) }
 {
     match Term::seq(parts) {
         Ok(term) => Ok(term),
@@ -39,7 +39,7 @@ fn sequence(parts: Vec<Term<Op>>) -> Result<Term<Op>, Why>
 
 #[tactic(auto, unfolding(crate::specs::Blocks::either))]
 fn either(alloc: Global, a: Term<Op>, b: Term<Op>) -> Result<Term<Op>, Complaint>
-    ensures { Gives (λ t. t) result (either a b) }
+    ensures { GivesAsGrammar (λ t. t) result (either a b) }
 {
     match Term::first(alloc, a, b) {
         Ok(term) => Ok(term),
@@ -50,7 +50,7 @@ fn either(alloc: Global, a: Term<Op>, b: Term<Op>) -> Result<Term<Op>, Complaint
 
 // The alternatives from the last to the first.
 fn block_of(alloc: Global, block: Open) -> Result<Term<Op>, Complaint>
-    ensures { Gives (λ t. t) result (block_of (open_of block)) }
+    ensures { GivesAsGrammar (λ t. t) result (block_of (open_of block)) }
 {
     let mut done = block.done;
     let mut term = sequence(block.parts)?;
@@ -63,7 +63,7 @@ fn block_of(alloc: Global, block: Open) -> Result<Term<Op>, Complaint>
 
 /// Whether a block is open.
 pub fn in_block(place: &Thread) -> bool
-    ensures { result ≡ in_block (place_of place.now).open_blocks }
+    ensures { result ≡ in_block (place_of_thread place.now).open_blocks }
 {
     match place.open_blocks.last() {
         None => false,
@@ -74,7 +74,7 @@ pub fn in_block(place: &Thread) -> bool
 // Room for one more command or block where the lines stand, and how many the outermost block then has.
 #[tactic(auto, unfolding(crate::specs::Blocks::counted_up))]
 fn counted_up(place: &Thread) -> Result<u32, Why>
-    ensures is { result ≡ counted_up (place_of place.now) (place_of place.now).open_blocks }
+    ensures is { result ≡ counted_up (place_of_thread place.now) (place_of_thread place.now).open_blocks }
     ensures within { IfOk result (λ n. n ≤ MOST_OPERATIONS) }
 {
     match place.open_blocks.last() {
@@ -109,7 +109,7 @@ fn begin(open_blocks: &mut Vec<Open>, b: Open) -> Result<(), AllocError>
 
 fn with_op(place: &mut Thread, count: u32, operation: Op) -> Result<(), AllocError>
     requires { count ≤ MOST_OPERATIONS }
-    ensures { OnOk result (place_of place.new ≡ with_op (place_of place.old) (place_of place.old).open_blocks count operation) }
+    ensures { OnOk result (place_of_thread place.new ≡ with_op (place_of_thread place.old) (place_of_thread place.old).open_blocks count operation) }
 {
     match innermost(&mut place.open_blocks) {
         None => place.here.push(Command::One(operation))?,
@@ -125,7 +125,7 @@ fn with_op(place: &mut Thread, count: u32, operation: Op) -> Result<(), AllocErr
 /// An operation where the lines stand.
 #[tactic(auto, unfolding(crate::specs::Blocks::op_line))]
 pub fn op_line(place: &mut Thread, operation: Op) -> Result<(), Complaint>
-    ensures { Reaches (place_of place.new) result (op_line (place_of place.old) operation) }
+    ensures { Reaches (place_of_thread place.new) result (op_line (place_of_thread place.old) operation) }
 {
     let count = counted_up(place)?;
     with_op(place, count, operation)?;
@@ -134,7 +134,7 @@ pub fn op_line(place: &mut Thread, operation: Op) -> Result<(), Complaint>
 
 // The level of a block that begins where the lines stand.
 fn level_here(place: &Thread) -> u32
-    ensures { result ≡ level_here (place_of place.now).open_blocks }
+    ensures { result ≡ level_here (place_of_thread place.now).open_blocks }
 {
     match place.open_blocks.last() {
         None => 0,
@@ -144,7 +144,7 @@ fn level_here(place: &Thread) -> u32
 
 #[tactic(auto, unfolding(crate::specs::Blocks::atomic_line))]
 pub fn atomic_line(alloc: Global, place: &mut Thread, args: &[&[u8]]) -> Result<(), Complaint>
-    ensures { Reaches (place_of place.new) result (atomic_line (place_of place.old) (map (λ word. word.now) args.now)) }
+    ensures { Reaches (place_of_thread place.new) result (atomic_line (place_of_thread place.old) (map (λ word. word.now) args.now)) }
 {
     counted(0, args)?;
     let count = counted_up(place)?;
@@ -162,7 +162,7 @@ pub fn atomic_line(alloc: Global, place: &mut Thread, args: &[&[u8]]) -> Result<
 
 #[tactic(auto, unfolding(crate::specs::Blocks::or_at))]
 pub fn or_line(alloc: Global, place: &mut Thread, args: &[&[u8]]) -> Result<(), Complaint>
-    ensures { Reaches (place_of place.new) result (or_at (place_of place.old) (place_of place.old).open_blocks (map (λ word. word.now) args.now)) }
+    ensures { Reaches (place_of_thread place.new) result (or_at (place_of_thread place.old) (place_of_thread place.old).open_blocks (map (λ word. word.now) args.now)) }
 {
     let Some(mut b) = innermost(&mut place.open_blocks) else {
         return Err(Complaint::Here(Why::StrayWord));
@@ -178,7 +178,7 @@ pub fn or_line(alloc: Global, place: &mut Thread, args: &[&[u8]]) -> Result<(), 
 
 // A block where the lines stand behind its end.
 fn with_block(place: &mut Thread, block: Term<Op>) -> Result<(), AllocError>
-    ensures { OnOk result (place_of place.new ≡ with_block (place_of place.old) (place_of place.old).open_blocks block) }
+    ensures { OnOk result (place_of_thread place.new ≡ with_block (place_of_thread place.old) (place_of_thread place.old).open_blocks block) }
 {
     match innermost(&mut place.open_blocks) {
         None => {
@@ -195,7 +195,7 @@ fn with_block(place: &mut Thread, block: Term<Op>) -> Result<(), AllocError>
 
 #[tactic(auto, unfolding(crate::specs::Blocks::end_at))]
 pub fn end_line(alloc: Global, place: &mut Thread, args: &[&[u8]]) -> Result<(), Complaint>
-    ensures { Reaches (place_of place.new) result (end_at (place_of place.old) (place_of place.old).open_blocks (map (λ word. word.now) args.now)) }
+    ensures { Reaches (place_of_thread place.new) result (end_at (place_of_thread place.old) (place_of_thread place.old).open_blocks (map (λ word. word.now) args.now)) }
 {
     let Some(b) = innermost(&mut place.open_blocks) else {
         return Err(Complaint::Here(Why::StrayWord));

@@ -13,7 +13,7 @@ ghost use Rattle.kc_script.specs.Refused.{SpellNone, Refused};
 ghost use Rattle.kc_script.specs.Parts.{SpellsParts, PartFault, first_fault_in_parts, PartsSpellNone};
 ghost use Rattle.kc_script.specs.Threads.{AreThreads};
 ghost use Rattle.kc_script.specs.Blocks.{OpenBlock, block_of};
-ghost use Rattle.kc_script.specs.Reading.{State, opening, all_lines};
+ghost use Rattle.kc_script.specs.Reading.{ReadingState, opening_state, all_lines};
 ghost use Rattle.kc_term.specs.Tree.{Tree};
 ghost use Rattle.kc_script_bundle.specs.declared.operation.Op.{Op};
 
@@ -40,7 +40,7 @@ pub fn spelled_is_in_order()
 /// A block that is open behind some lines is made where it ends: what is too much in a block was refused before, at the
 /// line where it was too much.
 pub fn blocks_are_made()
-    ensures { (texts : List (List ℕ)) (s : State) (b : OpenBlock) (outer : List OpenBlock) → all_lines (opening true) texts ≡ Ok s → s.place.open_blocks ≡ b ∷ outer → (t : Tree Op) × (block_of b ≡ Ok t) }
+    ensures { (texts : List (List ℕ)) (s : ReadingState) (b : OpenBlock) (outer : List OpenBlock) → all_lines (opening_state true) texts ≡ Ok s → s.place.open_blocks ≡ b ∷ outer → (t : Tree Op) × (block_of b ≡ Ok t) }
 {}
 
 /// The canonical text of a bundle that bytes spell spells it too.

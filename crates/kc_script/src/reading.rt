@@ -8,7 +8,7 @@ ghost use Rattle.kc_script_verbs.specs.Objects.{object_of};
 ghost use Rattle.kc_script_verbs.specs.Declaring.{IsAt};
 ghost use Rattle.kc_script.specs.Blocks.{in_block};
 ghost use Rattle.kc_script.specs.Version.{knows_limit, version_of, limit_of, has_kind, word_in};
-ghost use Rattle.kc_script.specs.Reading.{state_of, opening, with_object, closed, begun_thread, next_thread, no_block, placed, declared_line, said_line, begun_block, thread_line, can_limit, limit_line, unknown_line, worded_line, header_line, content_line, any_line, ended, script_at, atomics_behind, atomics_after, atomics_next, nearest, at_line, read_from, part_read, spelled, files_read, parts_read, spelled_parts, of_part, in_a_part, complained, Comes, Ends, Spelled, PartComes, PartsSpelled};
+ghost use Rattle.kc_script.specs.Reading.{reader_state, opening_state, with_object, closed, begun_thread, next_thread, no_block, at_new_place, declared_line, said_line, begun_block, thread_line, can_limit, limit_line, unknown_line, worded_line, header_line, content_line, any_line, reading_ended, script_at, atomics_behind, atomics_after, atomics_next, nearest_line, at_line, read_from, part_read, spelled, files_read, parts_read, spelled_parts, of_part, in_a_part, complained, ReadingComes, ReadingEnds, Spelled, PartComes, PartsSpelled};
 
 use crate::blocks::{atomic_line, begin_thread, end_line, in_block, op_line, or_line};
 use crate::parser::MOST_BYTES;
@@ -27,7 +27,7 @@ use std::mem;
 
 #[tactic(auto, unfolding(kc_script_bundle::specs::Script::next_from))]
 fn open(alloc: Global, whole: bool) -> Reader
-    ensures { state_of result ≡ opening whole }
+    ensures { reader_state result ≡ opening_state whole }
 {
     Reader {
         alloc,
@@ -44,7 +44,7 @@ fn open(alloc: Global, whole: bool) -> Reader
 
 #[tactic(auto, unfolding(crate::specs::Reading::declared_line))]
 fn declared_line(reader: &mut Reader, kind: Kind, args: &[&[u8]]) -> Result<(), Complaint>
-    ensures { Reaches (state_of reader.new) result (declared_line (state_of reader.old) kind (map (λ word. word.now) args.now)) }
+    ensures { Reaches (reader_state reader.new) result (declared_line (reader_state reader.old) kind (map (λ word. word.now) args.now)) }
 {
     wants(reader.thread.is_none(), Why::StrayWord)?;
     let object = declare(reader.alloc, &mut reader.objects, reader.next, kind, args)?;
@@ -54,7 +54,7 @@ fn declared_line(reader: &mut Reader, kind: Kind, args: &[&[u8]]) -> Result<(), 
 
 #[tactic(auto, unfolding(crate::specs::Reading::said_line))]
 fn said_line(reader: &mut Reader, verb: Verb, args: &[&[u8]]) -> Result<(), Complaint>
-    ensures { Reaches (state_of reader.new) result (said_line (state_of reader.old) verb (map (λ word. word.now) args.now)) }
+    ensures { Reaches (reader_state reader.new) result (said_line (reader_state reader.old) verb (map (λ word. word.now) args.now)) }
 {
     let Some(thread) = reader.thread else {
         return Err(Complaint::Here(Why::StrayWord));
@@ -65,7 +65,7 @@ fn said_line(reader: &mut Reader, verb: Verb, args: &[&[u8]]) -> Result<(), Comp
 
 #[tactic(auto, unfolding(crate::specs::Reading::begun_block))]
 fn begun_block(reader: &mut Reader, args: &[&[u8]]) -> Result<(), Complaint>
-    ensures { Reaches (state_of reader.new) result (begun_block (state_of reader.old) (map (λ word. word.now) args.now)) }
+    ensures { Reaches (reader_state reader.new) result (begun_block (reader_state reader.old) (map (λ word. word.now) args.now)) }
 {
     if reader.thread.is_none() {
         return Err(Complaint::Here(Why::StrayWord));
@@ -75,7 +75,7 @@ fn begun_block(reader: &mut Reader, args: &[&[u8]]) -> Result<(), Complaint>
 
 // Puts the commands of the open thread, where there is one, behind the threads.
 fn close_thread(reader: &mut Reader) -> Result<(), AllocError>
-    ensures { OnOk result (state_of reader.new ≡ closed (state_of reader.old)) }
+    ensures { OnOk result (reader_state reader.new ≡ closed (reader_state reader.old)) }
 {
     let place = mem::replace(&mut reader.place, begin_thread(reader.alloc));
     if reader.thread.is_some() {
@@ -87,7 +87,7 @@ fn close_thread(reader: &mut Reader) -> Result<(), AllocError>
 // Begins the thread of this number.
 fn begun_thread(reader: &mut Reader, thread: u32) -> Result<(), AllocError>
     requires { thread < MOST_THREADS }
-    ensures { OnOk result (state_of reader.new ≡ begun_thread (state_of reader.old) thread) }
+    ensures { OnOk result (reader_state reader.new ≡ begun_thread (reader_state reader.old) thread) }
 {
     close_thread(reader)?;
     reader.thread = Some(thread);
@@ -95,14 +95,14 @@ fn begun_thread(reader: &mut Reader, thread: u32) -> Result<(), AllocError>
 }
 
 fn no_block(reader: &Reader) -> Result<(), Why>
-    ensures { result ≡ no_block (state_of reader.now) }
+    ensures { result ≡ no_block (reader_state reader.now) }
 {
     wants(!in_block(&reader.place), Why::UnclosedBlock)
 }
 
 // The number of the thread that begins next.
 fn next_thread(reader: &Reader) -> u32
-    ensures { result ≡ next_thread (state_of reader.now).thread }
+    ensures { result ≡ next_thread (reader_state reader.now).thread }
 {
     match reader.thread {
         None => 0,
@@ -112,7 +112,7 @@ fn next_thread(reader: &Reader) -> u32
 
 #[tactic(auto, unfolding(crate::specs::Reading::thread_line))]
 fn thread_line(reader: &mut Reader, args: &[&[u8]]) -> Result<(), Complaint>
-    ensures { Reaches (state_of reader.new) result (thread_line (state_of reader.old) (map (λ word. word.now) args.now)) }
+    ensures { Reaches (reader_state reader.new) result (thread_line (reader_state reader.old) (map (λ word. word.now) args.now)) }
 {
     no_block(reader)?;
     wants(reader.whole, Why::StrayWord)?;
@@ -136,7 +136,7 @@ fn knows_limit(version: Version, word: &[u8]) -> bool
 
 // Whether the limit can stand here, directly behind the header.
 fn can_limit(reader: &Reader) -> bool
-    ensures { result ≡ can_limit (state_of reader.now) }
+    ensures { result ≡ can_limit (reader_state reader.now) }
 {
     reader.thread.is_none()
         && reader.objects.is_empty()
@@ -148,7 +148,7 @@ fn can_limit(reader: &Reader) -> bool
 
 #[tactic(auto, unfolding(crate::specs::Reading::limit_line))]
 fn limit_line(reader: &mut Reader, args: &[&[u8]]) -> Result<(), Why>
-    ensures { Arrives (state_of reader.new) result (limit_line (state_of reader.old) (map (λ word. word.now) args.now)) }
+    ensures { Arrives (reader_state reader.new) result (limit_line (reader_state reader.old) (map (λ word. word.now) args.now)) }
 {
     wants(can_limit(reader), Why::StrayWord)?;
     counted(1, args)?;
@@ -160,7 +160,7 @@ fn limit_line(reader: &mut Reader, args: &[&[u8]]) -> Result<(), Why>
 // A line whose first word is no other.
 #[tactic(auto, unfolding(crate::specs::Reading::unknown_line))]
 fn unknown_line(reader: &mut Reader, first: &[u8], args: &[&[u8]]) -> Result<(), Why>
-    ensures { Arrives (state_of reader.new) result (unknown_line (state_of reader.old) first.now (map (λ word. word.now) args.now)) }
+    ensures { Arrives (reader_state reader.new) result (unknown_line (reader_state reader.old) first.now (map (λ word. word.now) args.now)) }
 {
     wants(knows_limit(reader.version, first), Why::UnknownWord)?;
     limit_line(reader, args)
@@ -220,7 +220,7 @@ fn worded_line(
     word: Option<Word>,
     args: &[&[u8]],
 ) -> Result<(), Complaint>
-    ensures { Reaches (state_of reader.new) result (worded_line (state_of reader.old) first.now word (map (λ word. word.now) args.now)) }
+    ensures { Reaches (reader_state reader.new) result (worded_line (reader_state reader.old) first.now word (map (λ word. word.now) args.now)) }
 {
     match word {
         None => {
@@ -238,7 +238,7 @@ fn worded_line(
 
 #[tactic(auto, unfolding(crate::specs::Reading::header_line))]
 fn header_line(reader: &mut Reader, words: &[&[u8]]) -> Result<(), Why>
-    ensures { Arrives (state_of reader.new) result (header_line (state_of reader.old) (map (λ word. word.now) words.now)) }
+    ensures { Arrives (reader_state reader.new) result (header_line (reader_state reader.old) (map (λ word. word.now) words.now)) }
 {
     wants(words.len() == 2, Why::Header)?;
     wants(word_at(words, 0) == b"kcas".as_slice(), Why::Header)?;
@@ -271,7 +271,7 @@ fn content_line(
     line: u32,
     words: &[&[u8]],
 ) -> Result<(), Complaint>
-    ensures state { Reaches (state_of reader.new) result (content_line (state_of reader.old) (map (λ word. word.now) words.now)) }
+    ensures state { Reaches (reader_state reader.new) result (content_line (reader_state reader.old) (map (λ word. word.now) words.now)) }
     ensures atomics { OnOk result (reverse atomics.new.items ≡ atomics_after reader.old.begun (reverse atomics.old.items) line (map (λ word. word.now) words.now)) }
 {
     match words {
@@ -296,7 +296,7 @@ fn any_line(
     line: u32,
     words: &[&[u8]],
 ) -> Result<(), Complaint>
-    ensures state { Reaches (state_of reader.new) result (any_line (state_of reader.old) (map (λ word. word.now) words.now)) }
+    ensures state { Reaches (reader_state reader.new) result (any_line (reader_state reader.old) (map (λ word. word.now) words.now)) }
     ensures atomics { OnOk result (reverse atomics.new.items ≡ atomics_next reader.old.begun (reverse atomics.old.items) line (map (λ word. word.now) words.now)) }
 {
     if is_skipped(words) {
@@ -307,7 +307,7 @@ fn any_line(
 
 // The line of the innermost block that is open.
 fn nearest(atomics: &[u32]) -> u32
-    ensures { result ≡ nearest (reverse atomics.now) }
+    ensures { result ≡ nearest_line (reverse atomics.now) }
 {
     atomics.last().copied().unwrap_or(0)
 }
@@ -332,7 +332,7 @@ fn text_line(
     line: u32,
     words: &[&[u8]],
 ) -> Result<(), ScriptError>
-    ensures state { Comes (state_of reader.new) result (at_line (nearest (reverse atomics.old.items)) line (any_line (state_of reader.old) (map (λ word. word.now) words.now))) }
+    ensures state { ReadingComes (reader_state reader.new) result (at_line (nearest_line (reverse atomics.old.items)) line (any_line (reader_state reader.old) (map (λ word. word.now) words.now))) }
     ensures atomics { OnOk result (reverse atomics.new.items ≡ atomics_next reader.old.begun (reverse atomics.old.items) line (map (λ word. word.now) words.now)) }
 {
     let nearest = nearest(atomics);
@@ -345,7 +345,7 @@ fn text_line(
 // Reads the lines in turn. They are numbered from 1.
 fn all_lines(reader: &mut Reader, atomics: &mut Vec<u32>, bytes: &[u8]) -> Result<(), ScriptError>
     requires { length bytes.now ≤ MOST_BYTES }
-    ensures { Ends (state_of reader.new) (reverse atomics.new.items) result (read_from (state_of reader.old) (reverse atomics.old.items) 1 (lines bytes.now)) }
+    ensures { ReadingEnds (reader_state reader.new) (reverse atomics.new.items) result (read_from (reader_state reader.old) (reverse atomics.old.items) 1 (lines bytes.now)) }
 {
     let mut found = Vec::new(reader.alloc);
     let mut line = 0;
@@ -363,7 +363,7 @@ fn all_lines(reader: &mut Reader, atomics: &mut Vec<u32>, bytes: &[u8]) -> Resul
 // The lines have ended.
 #[tactic(auto, unfolding(crate::specs::Reading::ended))]
 fn ended(reader: &Reader) -> Result<(), Why>
-    ensures { Arrives (state_of reader.now) result (ended (state_of reader.now)) }
+    ensures { Arrives (reader_state reader.now) result (reading_ended (reader_state reader.now)) }
 {
     wants(reader.begun, Why::Header)?;
     no_block(reader)
@@ -373,7 +373,7 @@ fn ended(reader: &Reader) -> Result<(), Why>
 #[tactic(auto, unfolding(crate::specs::Reading::part_read))]
 fn read_part(reader: &mut Reader, bytes: &[u8]) -> Result<(), ScriptError>
     requires { length bytes.now ≤ MOST_BYTES }
-    ensures { Comes (state_of reader.new) result (part_read (state_of reader.old) bytes.now) }
+    ensures { ReadingComes (reader_state reader.new) result (part_read (reader_state reader.old) bytes.now) }
 {
     let mut atomics = Vec::new(reader.alloc);
     all_lines(reader, &mut atomics, bytes)?;
@@ -385,7 +385,7 @@ fn read_part(reader: &mut Reader, bytes: &[u8]) -> Result<(), ScriptError>
 
 // The bundle that was read.
 fn bundle_of(mut reader: Reader) -> Result<Bundle, AllocError>
-    ensures { IfOk result (λ bundle. script_of bundle ≡ script_at (state_of reader)) }
+    ensures { IfOk result (λ bundle. script_of bundle ≡ script_at (reader_state reader)) }
 {
     close_thread(&mut reader)?;
     let limit = limit_of(reader.version);
@@ -419,7 +419,7 @@ fn in_a_part(part: u32, error: ScriptError) -> PartError
 // Reads the part of this number.
 fn read_numbered(reader: &mut Reader, part: u32, bytes: &[u8]) -> Result<(), PartError>
     requires { length bytes.now ≤ MOST_BYTES }
-    ensures { PartComes (state_of reader.new) result (of_part part (part_read (state_of reader.old) bytes.now)) }
+    ensures { PartComes (reader_state reader.new) result (of_part part (part_read (reader_state reader.old) bytes.now)) }
 {
     match read_part(reader, bytes) {
         Ok(()) => Ok(()),
@@ -431,7 +431,7 @@ fn read_numbered(reader: &mut Reader, part: u32, bytes: &[u8]) -> Result<(), Par
 fn all_files(reader: &mut Reader, files: &[Vec<u8>]) -> Result<(), PartError>
     requires files { All (λ file. length file.items ≤ MOST_BYTES) files.now }
     requires few { length files.now ≤ MOST_THREADS }
-    ensures { PartComes (state_of reader.new) result (files_read (state_of reader.old) 0 (map (λ file. file.items) files.now)) }
+    ensures { PartComes (reader_state reader.new) result (files_read (reader_state reader.old) 0 (map (λ file. file.items) files.now)) }
 {
     let mut thread = 0;
     for file in files {

@@ -7,7 +7,7 @@ use Rattle.kc_xt.specs.Program.{replies}
 use Rattle.kc_xt.specs.Stays.{Stays}
 use Rattle.kc_loc.specs.declared.operation.LocOp.TheVariants as loc
 use Rattle.kc_cache.proofs.CacheLaw.{cache_stays}
-use Rattle.kc_cache.specs.Meaning.{cells_end as cache_cells_end}
+use Rattle.kc_cache.specs.Meaning.{cache_cells_end}
 use Rattle.kc_cells.proofs.AccLaw.{acc_stays}
 use Rattle.kc_cells.proofs.MvarLaw.{mvar_stays}
 use Rattle.kc_cells.proofs.PromiseLaw.{promise_stays}
@@ -17,13 +17,13 @@ use Rattle.kc_cells.specs.Promise.{promise_cells_end}
 use Rattle.kc_grow.proofs.GrowLaw.{grow_stays}
 use Rattle.kc_grow.specs.Meaning.{grow_end_of}
 use Rattle.kc_hash.proofs.HashLaw.{hash_stays}
-use Rattle.kc_hash.specs.Meaning.{cells_end as hash_cells_end}
+use Rattle.kc_hash.specs.Meaning.{hash_cells_end}
 use Rattle.kc_loc.proofs.LocLaw.{loc_stays}
 use Rattle.kc_loc.specs.Meaning.{loc_begin, loc_last}
 use Rattle.kc_queue.proofs.QueueLaw.{queue_stays}
-use Rattle.kc_queue.specs.Meaning.{cells_end as queue_cells_end}
+use Rattle.kc_queue.specs.Meaning.{queue_cells_end}
 use Rattle.kc_stack.proofs.StackLaw.{stack_stays}
-use Rattle.kc_stack.specs.Meaning.{cells_end as stack_cells_end}
+use Rattle.kc_stack.specs.Meaning.{stack_cells_end}
 use Rattle.kc_script_bundle.specs.declared.object.Object.TheVariants as object
 use Rattle.kc_script_bundle.specs.declared.operation.Op.{Op}
 use Rattle.kc_script_bundle.specs.declared.operation.Op.TheVariants as op

@@ -5,17 +5,17 @@ use Rattle.std.proofs.lemmas.List.{ext_get_or, length-reverse, get_or-reverse}
 use Rattle.kc_cache.proofs.Cells.{cache_same, cache_shows, cache_opens}
 use Rattle.kc_cells.proofs.AccLaw.{acc_own, acc_opens}
 use Rattle.kc_cells.proofs.OnePlaces.{place_own, place_opens}
-use Rattle.kc_cells.specs.OnePlace.{held, Holds}
+use Rattle.kc_cells.specs.OnePlace.{value_held, PlaceHolds}
 use Rattle.kc_grow.proofs.Opened.{grow_opens, grow_same, grow_shows}
 use Rattle.kc_hash.proofs.Chained.{same_cells, shows as table_shows}
 use Rattle.kc_hash.proofs.Opened.{hash_opens}
 use Rattle.kc_queue.proofs.Standing.{queue_own, queue_opens}
-use Rattle.kc_queue.specs.Meaning.{head_cell, count_cell, ring_cell, head_in, back_of, counted as queue_counted, StandsFor as QueueStands}
+use Rattle.kc_queue.specs.Meaning.{queue_head_cell, queue_count_cell, ring_cell, queue_head_in, back_of, queue_counted, QueueStandsFor as QueueStands}
 use Rattle.kc_queue.specs.declared.queue.Queue.{Queue}
 use Rattle.kc_script_bundle.specs.declared.object.Object.{Object}
 use Rattle.kc_stack.proofs.Standing.{stack_own, stack_opens}
-use Rattle.kc_stack.specs.Content.{StandsFor as StackStands}
-use Rattle.kc_stack.specs.Meaning.{counted}
+use Rattle.kc_stack.specs.Content.{StackStandsFor as StackStands}
+use Rattle.kc_stack.specs.Meaning.{stack_counted}
 use Rattle.kc_stack.specs.declared.stack.Stack.{Stack}
 use Rattle.kc_script_bundle.specs.declared.object.Object.TheVariants as object
 use Rattle.kc_script_bundle.proofs.Places.{value_at, length-values_from}
@@ -43,24 +43,24 @@ stands_same (object.Cache x) m w c same (ps, h, e) = (ps, cache_same x m w ps (�
 
 stack_shows : (s : Stack) (m : ℕ → ℕ) (xs : List ℕ) → StackStands s m xs → stack_shown s m ≡ reverse xs
 stack_shows s m xs h =
-    let count : counted s (m s.base.0) ≡ length xs = omega (arith, h.count, h.within) in
+    let count : stack_counted s (m s.base.0) ≡ length xs = omega (arith, h.count, h.within) in
     let turned = length-reverse xs in
     ext_get_or 0 (stack_shown s m) (reverse xs) (length-values_from (from_top s m) 0 _ ∙ count ∙ sym turned) (λ i lt.
-    let lt' : i < counted s (m s.base.0) = omega (arith, lt, length-values_from (from_top s m) 0 (counted s (m s.base.0))) in
+    let lt' : i < stack_counted s (m s.base.0) = omega (arith, lt, length-values_from (from_top s m) 0 (stack_counted s (m s.base.0))) in
     let below : i < length xs = omega (arith, lt', count) in
-    let at : s.base.0 + counted s (m s.base.0) - (0 + i) ≡ s.base.0 + 1 + (length xs - 1 - i) = omega (arith, count, below) in
+    let at : s.base.0 + stack_counted s (m s.base.0) - (0 + i) ≡ s.base.0 + 1 + (length xs - 1 - i) = omega (arith, count, below) in
     value_at (from_top s m) 0 _ i lt' ∙ ap m at ∙ h.cells (length xs - 1 - i) (omega (arith, below)) ∙ sym (get_or-reverse xs i 0 below))
 
 queue_shows : (q : Queue) (m : ℕ → ℕ) (xs : List ℕ) → QueueStands q m xs → queue_shown q m ≡ xs
 queue_shows q m xs h =
-    let count : queue_counted q (m (count_cell q)) ≡ length xs = omega (arith, h.count, h.within) in
-    let head : head_in q (m (head_cell q)) ≡ m (head_cell q) = ap (λ t. cond t (m (head_cell q)) 0) (lt-ltb _ _ h.head) in
+    let count : queue_counted q (m (queue_count_cell q)) ≡ length xs = omega (arith, h.count, h.within) in
+    let head : queue_head_in q (m (queue_head_cell q)) ≡ m (queue_head_cell q) = ap (λ t. cond t (m (queue_head_cell q)) 0) (lt-ltb _ _ h.head) in
     ext_get_or 0 (queue_shown q m) xs (length-values_from (from_front q m) 0 _ ∙ count) (λ i lt.
-    let lt' : i < queue_counted q (m (count_cell q)) = omega (arith, lt, length-values_from (from_front q m) 0 (queue_counted q (m (count_cell q)))) in
+    let lt' : i < queue_counted q (m (queue_count_cell q)) = omega (arith, lt, length-values_from (from_front q m) 0 (queue_counted q (m (queue_count_cell q)))) in
     let start : 0 + i ≡ i = omega arith in
     value_at (from_front q m) 0 _ i lt' ∙ ap (from_front q m) start ∙ ap (λ n. m (ring_cell q (back_of q n i))) head ∙ h.ring i (omega (arith, lt', count)))
 
-place_shows : (base : ℕ) (m : ℕ → ℕ) (v : Option ℕ) → Holds base m v → held base m ≡ v
+place_shows : (base : ℕ) (m : ℕ → ℕ) (v : Option ℕ) → PlaceHolds base m v → value_held base m ≡ v
 place_shows base m None h = ap (λ t. cond t None (Some (m (base + 1)))) (eq-eqb _ _ h)
 place_shows base m (Some v) h = ap (λ t. cond t None (Some (m (base + 1)))) (ne_eqb _ _ (λ z. omega (arith, h.0, z))) ∙ ap Some h.1
 

@@ -100,12 +100,12 @@ pub record LiesInOrder (s : Script) : Type 0 where
   pub within : next_from 1 s.objects ≤ MOST_LOCATIONS
 
 -- its cells lie behind location 0, which is that of live threads, and below this number
-abbrev pub IsWithin : ℕ → Object → Type 0
-IsWithin n o = (1 ≤ base o) × (base o + cells o ≤ n)
+abbrev pub ObjectIsWithin : ℕ → Object → Type 0
+ObjectIsWithin n o = (1 ≤ base o) × (base o + cells o ≤ n)
 
 abbrev pub CellsWithin : ℕ → Names → Type 0
 CellsWithin n [] = Unit {0}
-CellsWithin n (entry ∷ names) = IsWithin n entry.1 × CellsWithin n names
+CellsWithin n (entry ∷ names) = ObjectIsWithin n entry.1 × CellsWithin n names
 
 -- an object is among those that have names
 abbrev pub HasObject : Names → Object → Type 0

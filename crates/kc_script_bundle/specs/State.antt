@@ -3,19 +3,19 @@ use Rattle.std.specs.Prelude.{◌≡◌, ℕ, zero, suc, ◌+◌, ◌-◌, List,
 use Rattle.std.specs.List.{flat_map}
 use Rattle.kc_script_bundle.specs.declared.object.Object.{Object}
 use Rattle.kc_script_bundle.specs.declared.object.Object.TheVariants as object
-use Rattle.kc_cache.specs.Content.{shown as cache_shown, StandsFor as CacheStands}
+use Rattle.kc_cache.specs.Content.{cache_shown, CacheStandsFor as CacheStands}
 use Rattle.kc_cache.specs.Meaning.{cache_opening}
 use Rattle.kc_cells.specs.Accumulator.{acc_opening, cells_sum, AccStandsFor}
 use Rattle.kc_cells.specs.Mvar.{MvarStandsFor}
-use Rattle.kc_cells.specs.OnePlace.{place_opening, held}
+use Rattle.kc_cells.specs.OnePlace.{place_opening, value_held}
 use Rattle.kc_cells.specs.Promise.{PromiseStandsFor}
-use Rattle.kc_grow.specs.Content.{grow_opening, shown as grown_shown, GrowStands}
-use Rattle.kc_hash.specs.Content.{hash_opening, shown as table_shown, StandsFor as HashStands}
-use Rattle.kc_queue.specs.Meaning.{queue_opening, head_cell, count_cell, ring_cell, head_in, back_of, counted as queue_counted, StandsFor as QueueStands}
+use Rattle.kc_grow.specs.Content.{grow_opening, grown_shown, GrowStands}
+use Rattle.kc_hash.specs.Content.{hash_opening, hash_shown as table_shown, HashStandsFor as HashStands}
+use Rattle.kc_queue.specs.Meaning.{queue_opening, queue_head_cell, queue_count_cell, ring_cell, queue_head_in, back_of, queue_counted, QueueStandsFor as QueueStands}
 use Rattle.kc_queue.specs.declared.queue.Queue.{Queue}
 use Rattle.kc_script_bundle.specs.Script.{Names, Script, cells}
-use Rattle.kc_stack.specs.Content.{stack_opening, StandsFor as StackStands}
-use Rattle.kc_stack.specs.Meaning.{counted as stack_counted}
+use Rattle.kc_stack.specs.Content.{stack_opening, StackStandsFor as StackStands}
+use Rattle.kc_stack.specs.Meaning.{stack_counted}
 use Rattle.kc_stack.specs.declared.stack.Stack.{Stack}
 use Rattle.kc_xt.specs.Program.{wrapped}
 
@@ -104,18 +104,18 @@ stack_shown s m = values_from (from_top s m) 0 (stack_counted s (m s.base.0))
 
 -- an item of a queue, counted from the front; a head not below the capacity counts as 0
 abbrev pub from_front : Queue → (ℕ → ℕ) → ℕ → ℕ
-from_front q m i = m (ring_cell q (back_of q (head_in q (m (head_cell q))) i))
+from_front q m i = m (ring_cell q (back_of q (queue_head_in q (m (queue_head_cell q))) i))
 
 abbrev pub queue_shown : Queue → (ℕ → ℕ) → List ℕ
-queue_shown q m = values_from (from_front q m) 0 (queue_counted q (m (count_cell q)))
+queue_shown q m = values_from (from_front q m) 0 (queue_counted q (m (queue_count_cell q)))
 
 -- where the cells stand for a content, they show it
 abbrev pub shown : Object → (ℕ → ℕ) → Content
 shown (object.Loc at value) m = number (m at.0)
 shown (object.Stack s) m = items (stack_shown s m)
 shown (object.Queue q) m = items (queue_shown q m)
-shown (object.Mvar x) m = place (held x.base.0 m)
-shown (object.Promise p) m = place (held p.base.0 m)
+shown (object.Mvar x) m = place (value_held x.base.0 m)
+shown (object.Promise p) m = place (value_held p.base.0 m)
 shown (object.Acc a) m = number (wrapped (cells_sum m a.base.0 a.cells))
 shown (object.Hash h) m = pairs (table_shown h m)
 shown (object.Grow g) m = pairs (grown_shown g m)

@@ -3,13 +3,13 @@
 ghost use Rattle.std.specs.Prelude.{◌≤◌, ◌<◌, length};
 ghost use Rattle.std.specs.List.{flat_map};
 ghost use Rattle.kc_model.specs.Store.{store_of};
-ghost use Rattle.kc_model.specs.Pen.{Puts};
+ghost use Rattle.kc_model.specs.Pen.{PenPuts};
 ghost use Rattle.kc_xt.specs.Meaning.{values};
-ghost use Rattle.kc_stack.specs.Meaning.{cells_end as stack_cells_end};
-ghost use Rattle.kc_queue.specs.Meaning.{cells_end as queue_cells_end};
-ghost use Rattle.kc_cache.specs.Content.{shown as cache_shown};
-ghost use Rattle.kc_grow.specs.Content.{shown as grown_shown};
-ghost use Rattle.kc_hash.specs.Content.{shown as table_shown};
+ghost use Rattle.kc_stack.specs.Meaning.{stack_cells_end};
+ghost use Rattle.kc_queue.specs.Meaning.{queue_cells_end};
+ghost use Rattle.kc_cache.specs.Content.{cache_shown};
+ghost use Rattle.kc_grow.specs.Content.{grown_shown};
+ghost use Rattle.kc_hash.specs.Content.{hash_shown as table_shown};
 ghost use Rattle.kc_script_bundle.specs.State.{place, stack_shown, queue_shown, number_text, pair_text, content_text};
 
 use kc_cache::Cache;
@@ -20,14 +20,14 @@ use kc_queue::Queue;
 use kc_stack::Stack;
 
 pub(crate) fn put_number<K: Sink>(pen: &mut Pen<K>, number: u32)
-    ensures { Puts K.written K.faults K.write_gives pen.old pen.new (number_text number) }
+    ensures { PenPuts K.written K.faults K.write_gives pen.old pen.new (number_text number) }
 {
     pen.put(b" ");
     pen.put_number(number);
 }
 
 fn put_pair<K: Sink>(pen: &mut Pen<K>, key: u32, value: u32)
-    ensures { Puts K.written K.faults K.write_gives pen.old pen.new (pair_text (key, value)) }
+    ensures { PenPuts K.written K.faults K.write_gives pen.old pen.new (pair_text (key, value)) }
 {
     pen.put(b" ");
     pen.put_number(key);
@@ -37,7 +37,7 @@ fn put_pair<K: Sink>(pen: &mut Pen<K>, key: u32, value: u32)
 
 pub(crate) fn put_location<K: Sink>(pen: &mut Pen<K>, store: &PlainStore, at: Loc)
     requires { at.0 < length store.now }
-    ensures { Puts K.written K.faults K.write_gives pen.old pen.new (number_text (values (store_of store.now) at.0)) }
+    ensures { PenPuts K.written K.faults K.write_gives pen.old pen.new (number_text (values (store_of store.now) at.0)) }
 {
     match store.get(at) {
         Some(value) => put_number(pen, value),
@@ -46,7 +46,7 @@ pub(crate) fn put_location<K: Sink>(pen: &mut Pen<K>, store: &PlainStore, at: Lo
 }
 
 pub(crate) fn put_place<K: Sink>(pen: &mut Pen<K>, held: Option<u32>)
-    ensures { Puts K.written K.faults K.write_gives pen.old pen.new (content_text (place held)) }
+    ensures { PenPuts K.written K.faults K.write_gives pen.old pen.new (content_text (place held)) }
 {
     match held {
         Some(value) => put_number(pen, value),
@@ -57,7 +57,7 @@ pub(crate) fn put_place<K: Sink>(pen: &mut Pen<K>, held: Option<u32>)
 /// The items, from the top.
 pub(crate) fn put_stack<K: Sink>(pen: &mut Pen<K>, store: &PlainStore, stack: Stack)
     requires { stack_cells_end stack ≤ length store.now }
-    ensures { Puts K.written K.faults K.write_gives pen.old pen.new (flat_map number_text (stack_shown stack (values (store_of store.now)))) }
+    ensures { PenPuts K.written K.faults K.write_gives pen.old pen.new (flat_map number_text (stack_shown stack (values (store_of store.now)))) }
 {
     for i in 0..stack.count(store) {
         put_number(pen, stack.item(store, i));
@@ -67,7 +67,7 @@ pub(crate) fn put_stack<K: Sink>(pen: &mut Pen<K>, store: &PlainStore, stack: St
 /// The items, from the front.
 pub(crate) fn put_queue<K: Sink>(pen: &mut Pen<K>, store: &PlainStore, queue: Queue)
     requires { queue_cells_end queue ≤ length store.now }
-    ensures { Puts K.written K.faults K.write_gives pen.old pen.new (flat_map number_text (queue_shown queue (values (store_of store.now)))) }
+    ensures { PenPuts K.written K.faults K.write_gives pen.old pen.new (flat_map number_text (queue_shown queue (values (store_of store.now)))) }
 {
     for i in 0..queue.count(store) {
         put_number(pen, queue.item(store, i));
@@ -76,7 +76,7 @@ pub(crate) fn put_queue<K: Sink>(pen: &mut Pen<K>, store: &PlainStore, queue: Qu
 
 // The pairs, in the order in which they come.
 fn put_pairs<K: Sink>(pen: &mut Pen<K>, mut pairs: Pairs)
-    ensures { Puts K.written K.faults K.write_gives pen.old pen.new (flat_map pair_text pairs.entry) }
+    ensures { PenPuts K.written K.faults K.write_gives pen.old pen.new (flat_map pair_text pairs.entry) }
 {
     while let Some((key, value)) = pairs.next() {
         put_pair(pen, key, value);
@@ -86,7 +86,7 @@ fn put_pairs<K: Sink>(pen: &mut Pen<K>, mut pairs: Pairs)
 /// The pairs of a table, in rising order of key. Kept apart from other objects, for which the room for pairs would be wiped too.
 #[inline(never)]
 pub(crate) fn put_hash<K: Sink>(pen: &mut Pen<K>, store: &PlainStore, hash: Hash)
-    ensures { Puts K.written K.faults K.write_gives pen.old pen.new (flat_map pair_text (table_shown hash (values (store_of store.now)))) }
+    ensures { PenPuts K.written K.faults K.write_gives pen.old pen.new (flat_map pair_text (table_shown hash (values (store_of store.now)))) }
 {
     put_pairs(pen, hash.pairs(store));
 }
@@ -94,7 +94,7 @@ pub(crate) fn put_hash<K: Sink>(pen: &mut Pen<K>, store: &PlainStore, hash: Hash
 /// The pairs of a table that grows, in rising order of key. Kept apart, as those of a table are.
 #[inline(never)]
 pub(crate) fn put_grow<K: Sink>(pen: &mut Pen<K>, store: &PlainStore, grow: Grow)
-    ensures { Puts K.written K.faults K.write_gives pen.old pen.new (flat_map pair_text (grown_shown grow (values (store_of store.now)))) }
+    ensures { PenPuts K.written K.faults K.write_gives pen.old pen.new (flat_map pair_text (grown_shown grow (values (store_of store.now)))) }
 {
     put_pairs(pen, grow.pairs(store));
 }
@@ -102,7 +102,7 @@ pub(crate) fn put_grow<K: Sink>(pen: &mut Pen<K>, store: &PlainStore, grow: Grow
 /// The pairs, from the most recently used one. Kept apart, as those of a table are.
 #[inline(never)]
 pub(crate) fn put_cache<K: Sink>(pen: &mut Pen<K>, store: &PlainStore, cache: Cache)
-    ensures { Puts K.written K.faults K.write_gives pen.old pen.new (flat_map pair_text (cache_shown cache (values (store_of store.now)))) }
+    ensures { PenPuts K.written K.faults K.write_gives pen.old pen.new (flat_map pair_text (cache_shown cache (values (store_of store.now)))) }
 {
     let mut pairs = cache.pairs(store);
     while let Some((key, value)) = pairs.next() {

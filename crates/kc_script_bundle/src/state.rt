@@ -3,7 +3,7 @@
 
 ghost use Rattle.std.specs.Prelude.{◌≤◌, ◌+◌, length};
 ghost use Rattle.kc_model.specs.Store.{store_of};
-ghost use Rattle.kc_model.specs.Pen.{Puts, Prints};
+ghost use Rattle.kc_model.specs.Pen.{PenPuts, Prints};
 ghost use Rattle.kc_xt.specs.Meaning.{values};
 ghost use Rattle.kc_script_bundle.specs.Script.{names_of, base, cells, CellsWithin};
 ghost use Rattle.kc_script_bundle.specs.State.{shown, content_text, state_line, state_text};
@@ -15,7 +15,7 @@ use kc_model::{Failed, Pen, PlainStore, Sink};
 
 fn put_content<K: Sink>(pen: &mut Pen<K>, store: &PlainStore, object: Object)
     requires { base object + cells object ≤ length store.now }
-    ensures { Puts K.written K.faults K.write_gives pen.old pen.new (content_text (shown object (values (store_of store.now)))) }
+    ensures { PenPuts K.written K.faults K.write_gives pen.old pen.new (content_text (shown object (values (store_of store.now)))) }
 {
     match object {
         Object::Loc { at, .. } => content::put_location(pen, store, at),
@@ -32,7 +32,7 @@ fn put_content<K: Sink>(pen: &mut Pen<K>, store: &PlainStore, object: Object)
 
 fn put_line<K: Sink>(pen: &mut Pen<K>, store: &PlainStore, name: &str, object: Object)
     requires { base object + cells object ≤ length store.now }
-    ensures { Puts K.written K.faults K.write_gives pen.old pen.new (state_line name.now (shown object (values (store_of store.now)))) }
+    ensures { PenPuts K.written K.faults K.write_gives pen.old pen.new (state_line name.now (shown object (values (store_of store.now)))) }
 {
     pen.put(name.as_bytes());
     put_content(pen, store, object);
@@ -42,7 +42,7 @@ fn put_line<K: Sink>(pen: &mut Pen<K>, store: &PlainStore, name: &str, object: O
 /// Puts a line for each object, with what it holds in the store.
 pub fn put_state<K: Sink>(pen: &mut Pen<K>, bundle: &Bundle, store: &PlainStore)
     requires { CellsWithin (length store.now) (names_of bundle.now.objects) }
-    ensures { Puts K.written K.faults K.write_gives pen.old pen.new (state_text (names_of bundle.now.objects) (values (store_of store.now))) }
+    ensures { PenPuts K.written K.faults K.write_gives pen.old pen.new (state_text (names_of bundle.now.objects) (values (store_of store.now))) }
 {
     for i in 0..bundle.objects.len() {
         let Some((name, object)) = bundle.objects.get_index(i) else {

@@ -10,14 +10,14 @@ Fails complaint.NoMemory read = Unit {0}
 Fails (complaint.Here why) read = read ≡ Err why
 
 -- what it returned, seen by view, is what the grammar gives
-abbrev pub Gives : {X Y : Type 0} → (X → Y) → Result X Complaint → Result Y Why → Type 0
-Gives view (Ok x) read = read ≡ Ok (view x)
-Gives view (Err e) read = Fails e read
+abbrev pub GivesAsGrammar : {X Y : Type 0} → (X → Y) → Result X Complaint → Result Y Why → Type 0
+GivesAsGrammar view (Ok x) read = read ≡ Ok (view x)
+GivesAsGrammar view (Err e) read = Fails e read
 
 -- what a function that takes no memory returned, seen by view, is what the grammar gives
-abbrev pub Reads : {X Y : Type 0} → (X → Y) → Result X Why → Result Y Why → Type 0
-Reads view (Ok x) read = read ≡ Ok (view x)
-Reads view (Err e) read = read ≡ Err e
+abbrev pub ReadsAsGrammar : {X Y : Type 0} → (X → Y) → Result X Why → Result Y Why → Type 0
+ReadsAsGrammar view (Ok x) read = read ≡ Ok (view x)
+ReadsAsGrammar view (Err e) read = read ≡ Err e
 
 -- it brought a reader to the state that the grammar gives
 abbrev pub Reaches : {X Y : Type 0} → Y → Result X Complaint → Result Y Why → Type 0

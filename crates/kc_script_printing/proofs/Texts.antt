@@ -8,8 +8,8 @@ use Rattle.kc_script_bundle.specs.declared.operation.Command.{Command}
 use Rattle.kc_script_bundle.specs.declared.operation.Op.{Op}
 use Rattle.kc_term.specs.Tree.{Tree, trees}
 use Rattle.kc_script_bundle.specs.declared.operation.Command.TheVariants as command
-use Rattle.kc_script.specs.Canonical.{line_of, block_lines, parts_lines, part_lines, command_lines, thread_lines, declaration_lines, line_text, text_of_lines}
-use Rattle.kc_script.specs.Spells.{Line, atomic_line, end_line}
+use Rattle.kc_script.specs.Canonical.{canonical_line, block_lines, parts_lines, part_lines, command_lines, thread_lines, declaration_lines, line_text, text_of_lines}
+use Rattle.kc_script.specs.Spells.{Line, spelled_atomic, end_line}
 use Rattle.kc_script_bundle.specs.Script.{Names}
 use Rattle.kc_script_verbs.specs.Canonical.{declaring}
 
@@ -20,7 +20,7 @@ texts_join (x ∷ xs) ys = ap (λ (rest : List ℕ). (line_text x ++ 10 ∷ []) 
 -- ---- declarations
 
 abbrev pub declaration_text : List ℕ × Object → List ℕ
-declaration_text entry = line_text (line_of [] (declaring entry.0 entry.1)) ++ 10 ∷ []
+declaration_text entry = line_text (canonical_line [] (declaring entry.0 entry.1)) ++ 10 ∷ []
 
 pub declarations_text : (names : Names) → text_of_lines (declaration_lines names) ≡ flat_map declaration_text names
 declarations_text [] = refl
@@ -36,7 +36,7 @@ module _ (names : Names) where
 
   commands_more : (c : Command) (cs : List Command) → command_lines names (c ∷ cs) ≡ command_lines names (c ∷ []) ++ command_lines names cs
   commands_more (command.One o) cs = refl
-  commands_more (command.Block t) cs = ap (λ (rest : List Line). atomic_line ∷ rest) (sym (append_assoc (block_lines names t) (end_line ∷ []) (command_lines names cs)))
+  commands_more (command.Block t) cs = ap (λ (rest : List Line). spelled_atomic ∷ rest) (sym (append_assoc (block_lines names t) (end_line ∷ []) (command_lines names cs)))
 
   pub commands_next : (cs : List Command) (i : ℕ) (d : Command) → i < length cs → text_of_lines (command_lines names (drop i cs)) ≡ text_of_lines (command_lines names (get_or cs i d ∷ [])) ++ text_of_lines (command_lines names (drop (i + 1) cs))
   commands_next cs i d lt =

@@ -1,10 +1,10 @@
 //! The lines that declare objects.
 
 ghost use Rattle.std.specs.Prelude.{◌≡◌, ◌++◌, ◌∷◌, [], drop};
-ghost use Rattle.kc_model.specs.Pen.{Puts};
+ghost use Rattle.kc_model.specs.Pen.{PenPuts};
 ghost use Rattle.kc_script_bundle.specs.Script.{names_of};
 ghost use Rattle.kc_script_verbs.specs.Canonical.{declaring};
-ghost use Rattle.kc_script.specs.Canonical.{declaration_lines, line_of, line_text, text_of_lines};
+ghost use Rattle.kc_script.specs.Canonical.{declaration_lines, canonical_line, line_text, text_of_lines};
 
 use crate::shapes::{put_named, put_number, put_numbers};
 use indexmap::IndexMap;
@@ -13,7 +13,7 @@ use kc_script_bundle::Object;
 
 // The line that declares an object, without its end.
 fn put_declaration<K: Sink>(pen: &mut Pen<K>, name: &[u8], object: Object)
-    ensures { Puts K.written K.faults K.write_gives pen.old pen.new (line_text (line_of [] (declaring name.now object))) }
+    ensures { PenPuts K.written K.faults K.write_gives pen.old pen.new (line_text (canonical_line [] (declaring name.now object))) }
 {
     match object {
         Object::Loc { value, .. } => put_number(pen, b"loc", name, value),
@@ -30,7 +30,7 @@ fn put_declaration<K: Sink>(pen: &mut Pen<K>, name: &[u8], object: Object)
 
 /// The lines that declare the objects.
 pub fn put_declarations<K: Sink>(pen: &mut Pen<K>, objects: &IndexMap<String, Object>)
-    ensures { Puts K.written K.faults K.write_gives pen.old pen.new (text_of_lines (declaration_lines (names_of objects.now))) }
+    ensures { PenPuts K.written K.faults K.write_gives pen.old pen.new (text_of_lines (declaration_lines (names_of objects.now))) }
 {
     for i in 0..objects.len() {
         let Some((name, object)) = objects.get_index(i) else {

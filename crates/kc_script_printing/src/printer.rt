@@ -1,7 +1,7 @@
 //! Printing a bundle.
 
 ghost use Rattle.std.specs.Prelude.{ℕ, List};
-ghost use Rattle.kc_model.specs.Pen.{Prints, Puts};
+ghost use Rattle.kc_model.specs.Pen.{Prints, PenPuts};
 ghost use Rattle.kc_script_bundle.specs.Script.{script_of};
 ghost use Rattle.kc_script.specs.Spells.{Spells};
 ghost use Rattle.kc_script.specs.Canonical.{canonical_text, heading_lines, text_of_lines};
@@ -14,7 +14,7 @@ use kc_script_bundle::Bundle;
 
 // The version, and the limit where it isn't the greatest.
 fn put_heading<K: Sink>(pen: &mut Pen<K>, limit: u32)
-    ensures { Puts K.written K.faults K.write_gives pen.old pen.new (text_of_lines (heading_lines limit)) }
+    ensures { PenPuts K.written K.faults K.write_gives pen.old pen.new (text_of_lines (heading_lines limit)) }
 {
     pen.put(b"kcas 2\n");
     if limit != MOST as u32 {

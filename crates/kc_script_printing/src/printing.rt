@@ -1,12 +1,12 @@
 //! The lines of threads, commands and blocks.
 
 ghost use Rattle.std.specs.Prelude.{◌++◌, ◌∷◌, [], map};
-ghost use Rattle.kc_model.specs.Pen.{Puts};
+ghost use Rattle.kc_model.specs.Pen.{PenPuts};
 ghost use Rattle.kc_term.specs.Tree.{pair, first, trees};
 ghost use Rattle.kc_script_bundle.specs.Script.{names_of, LieFrom, AreSized};
 ghost use Rattle.kc_script_bundle.specs.declared.operation.Command.TheVariants as command;
-ghost use Rattle.kc_script.specs.Spells.{atomic_line, end_line};
-ghost use Rattle.kc_script.specs.Canonical.{op_line, block_lines, parts_lines, part_lines, command_lines, thread_lines, text_of_lines};
+ghost use Rattle.kc_script.specs.Spells.{spelled_atomic, end_line};
+ghost use Rattle.kc_script.specs.Canonical.{canonical_op_line, block_lines, parts_lines, part_lines, command_lines, thread_lines, text_of_lines};
 
 use crate::said::put_op;
 use indexmap::IndexMap;
@@ -17,7 +17,7 @@ use kc_term::{Node, Term};
 fn put_op_line<K: Sink>(pen: &mut Pen<K>, objects: &IndexMap<String, Object>, operation: Op)
     requires lie { LieFrom 1 (names_of objects.now) }
     requires sized { AreSized (names_of objects.now) }
-    ensures { Puts K.written K.faults K.write_gives pen.old pen.new (text_of_lines (op_line (names_of objects.now) operation ∷ [])) }
+    ensures { PenPuts K.written K.faults K.write_gives pen.old pen.new (text_of_lines (canonical_op_line (names_of objects.now) operation ∷ [])) }
 {
     put_op(pen, objects, operation);
     pen.put(b"\n");
@@ -26,7 +26,7 @@ fn put_op_line<K: Sink>(pen: &mut Pen<K>, objects: &IndexMap<String, Object>, op
 fn put_pair<K: Sink>(pen: &mut Pen<K>, objects: &IndexMap<String, Object>, a: Op, b: Op)
     requires lie { LieFrom 1 (names_of objects.now) }
     requires sized { AreSized (names_of objects.now) }
-    ensures { Puts K.written K.faults K.write_gives pen.old pen.new (text_of_lines (block_lines (names_of objects.now) (pair a b))) }
+    ensures { PenPuts K.written K.faults K.write_gives pen.old pen.new (text_of_lines (block_lines (names_of objects.now) (pair a b))) }
 {
     put_op_line(pen, objects, a);
     put_op_line(pen, objects, b);
@@ -37,7 +37,7 @@ fn put_pair<K: Sink>(pen: &mut Pen<K>, objects: &IndexMap<String, Object>, a: Op
 fn put_block<K: Sink>(pen: &mut Pen<K>, objects: &IndexMap<String, Object>, block: &Term<Op>)
     requires lie { LieFrom 1 (names_of objects.now) }
     requires sized { AreSized (names_of objects.now) }
-    ensures { Puts K.written K.faults K.write_gives pen.old pen.new (text_of_lines (block_lines (names_of objects.now) block.now)) }
+    ensures { PenPuts K.written K.faults K.write_gives pen.old pen.new (text_of_lines (block_lines (names_of objects.now) block.now)) }
 {
     match block.node() {
         Node::Op(operation) => put_op_line(pen, objects, *operation),
@@ -56,7 +56,7 @@ fn put_alternatives<K: Sink>(
 )
     requires lie { LieFrom 1 (names_of objects.now) }
     requires sized { AreSized (names_of objects.now) }
-    ensures { Puts K.written K.faults K.write_gives pen.old pen.new (text_of_lines (block_lines (names_of objects.now) (first a.now b.now))) }
+    ensures { PenPuts K.written K.faults K.write_gives pen.old pen.new (text_of_lines (block_lines (names_of objects.now) (first a.now b.now))) }
 {
     put_block(pen, objects, a);
     pen.put(b"or\n");
@@ -67,7 +67,7 @@ fn put_alternatives<K: Sink>(
 fn put_parts<K: Sink>(pen: &mut Pen<K>, objects: &IndexMap<String, Object>, parts: &[Term<Op>])
     requires lie { LieFrom 1 (names_of objects.now) }
     requires sized { AreSized (names_of objects.now) }
-    ensures { Puts K.written K.faults K.write_gives pen.old pen.new (text_of_lines (parts_lines (names_of objects.now) (trees parts.now))) }
+    ensures { PenPuts K.written K.faults K.write_gives pen.old pen.new (text_of_lines (parts_lines (names_of objects.now) (trees parts.now))) }
 {
     for part in parts {
         put_part(pen, objects, part);
@@ -78,7 +78,7 @@ fn put_parts<K: Sink>(pen: &mut Pen<K>, objects: &IndexMap<String, Object>, part
 fn put_part<K: Sink>(pen: &mut Pen<K>, objects: &IndexMap<String, Object>, part: &Term<Op>)
     requires lie { LieFrom 1 (names_of objects.now) }
     requires sized { AreSized (names_of objects.now) }
-    ensures { Puts K.written K.faults K.write_gives pen.old pen.new (text_of_lines (part_lines (names_of objects.now) part.now)) }
+    ensures { PenPuts K.written K.faults K.write_gives pen.old pen.new (text_of_lines (part_lines (names_of objects.now) part.now)) }
 {
     match part.node() {
         Node::Op(operation) => put_op_line(pen, objects, *operation),
@@ -91,7 +91,7 @@ fn put_part<K: Sink>(pen: &mut Pen<K>, objects: &IndexMap<String, Object>, part:
 fn put_whole_block<K: Sink>(pen: &mut Pen<K>, objects: &IndexMap<String, Object>, block: &Term<Op>)
     requires lie { LieFrom 1 (names_of objects.now) }
     requires sized { AreSized (names_of objects.now) }
-    ensures { Puts K.written K.faults K.write_gives pen.old pen.new (text_of_lines (atomic_line ∷ (block_lines (names_of objects.now) block.now ++ end_line ∷ []))) }
+    ensures { PenPuts K.written K.faults K.write_gives pen.old pen.new (text_of_lines (spelled_atomic ∷ (block_lines (names_of objects.now) block.now ++ end_line ∷ []))) }
 {
     pen.put(b"atomic\n");
     put_block(pen, objects, block);
@@ -101,7 +101,7 @@ fn put_whole_block<K: Sink>(pen: &mut Pen<K>, objects: &IndexMap<String, Object>
 fn put_command<K: Sink>(pen: &mut Pen<K>, objects: &IndexMap<String, Object>, command: &Command)
     requires lie { LieFrom 1 (names_of objects.now) }
     requires sized { AreSized (names_of objects.now) }
-    ensures { Puts K.written K.faults K.write_gives pen.old pen.new (text_of_lines (command_lines (names_of objects.now) (command.now ∷ []))) }
+    ensures { PenPuts K.written K.faults K.write_gives pen.old pen.new (text_of_lines (command_lines (names_of objects.now) (command.now ∷ []))) }
 {
     match command {
         Command::One(operation) => put_op_line(pen, objects, *operation),
@@ -112,7 +112,7 @@ fn put_command<K: Sink>(pen: &mut Pen<K>, objects: &IndexMap<String, Object>, co
 fn put_commands<K: Sink>(pen: &mut Pen<K>, objects: &IndexMap<String, Object>, commands: &[Command])
     requires lie { LieFrom 1 (names_of objects.now) }
     requires sized { AreSized (names_of objects.now) }
-    ensures { Puts K.written K.faults K.write_gives pen.old pen.new (text_of_lines (command_lines (names_of objects.now) commands.now)) }
+    ensures { PenPuts K.written K.faults K.write_gives pen.old pen.new (text_of_lines (command_lines (names_of objects.now) commands.now)) }
 {
     for command in commands {
         put_command(pen, objects, command);
@@ -127,7 +127,7 @@ pub fn put_threads<K: Sink>(
 )
     requires lie { LieFrom 1 (names_of objects.now) }
     requires sized { AreSized (names_of objects.now) }
-    ensures { Puts K.written K.faults K.write_gives pen.old pen.new (text_of_lines (thread_lines (names_of objects.now) (map (λ commands. commands.items) threads.now))) }
+    ensures { PenPuts K.written K.faults K.write_gives pen.old pen.new (text_of_lines (thread_lines (names_of objects.now) (map (λ commands. commands.items) threads.now))) }
 {
     for commands in threads {
         pen.put(b"thread\n");

@@ -1,10 +1,10 @@
 //! The lines that say operations, without their ends.
 
 ghost use Rattle.std.specs.Prelude.{◌≡◌, ◌++◌, ◌∷◌, [], codes};
-ghost use Rattle.kc_model.specs.Pen.{Puts};
+ghost use Rattle.kc_model.specs.Pen.{PenPuts};
 ghost use Rattle.kc_script_bundle.specs.Script.{names_of, LieFrom, AreSized};
 ghost use Rattle.kc_script_verbs.specs.Canonical.{fun_words, rel_word, loc_words, stack_words, queue_words, table_words, hash_act, mvar_words, promise_words, acc_words, cache_words};
-ghost use Rattle.kc_script.specs.Canonical.{line_of, op_line, line_text};
+ghost use Rattle.kc_script.specs.Canonical.{canonical_line, canonical_op_line, line_text};
 
 use crate::naming::{base_of, name_at};
 use crate::shapes::{put_choice, put_named, put_number, put_numbers, put_numeral};
@@ -34,7 +34,7 @@ fn rel_word(rel: Rel) -> &'static [u8]
 
 // A location that a function changes.
 fn put_fun<K: Sink>(pen: &mut Pen<K>, word: &[u8], name: &[u8], fun: Fun)
-    ensures { Puts K.written K.faults K.write_gives pen.old pen.new (word.now ++ 32 ∷ (name.now ++ 32 ∷ line_text (line_of [] (fun_words fun)))) }
+    ensures { PenPuts K.written K.faults K.write_gives pen.old pen.new (word.now ++ 32 ∷ (name.now ++ 32 ∷ line_text (canonical_line [] (fun_words fun)))) }
 {
     match fun {
         Fun::Add(number) => put_choice(pen, word, name, b"add", number),
@@ -49,7 +49,7 @@ fn put_fun<K: Sink>(pen: &mut Pen<K>, word: &[u8], name: &[u8], fun: Fun)
 fn put_loc<K: Sink>(pen: &mut Pen<K>, objects: &IndexMap<String, Object>, operation: LocOp)
     requires lie { LieFrom 1 (names_of objects.now) }
     requires sized { AreSized (names_of objects.now) }
-    ensures { Puts K.written K.faults K.write_gives pen.old pen.new (line_text (line_of (names_of objects.now) (loc_words operation))) }
+    ensures { PenPuts K.written K.faults K.write_gives pen.old pen.new (line_text (canonical_line (names_of objects.now) (loc_words operation))) }
 {
     match operation {
         LocOp::Get(loc) => put_named(pen, b"get", name_at(objects, loc.0)),
@@ -71,7 +71,7 @@ fn put_loc<K: Sink>(pen: &mut Pen<K>, objects: &IndexMap<String, Object>, operat
 }
 
 fn put_swap<K: Sink>(pen: &mut Pen<K>, a: &[u8], b: &[u8])
-    ensures { Puts K.written K.faults K.write_gives pen.old pen.new (codes "swap " ++ (a.now ++ 32 ∷ b.now)) }
+    ensures { PenPuts K.written K.faults K.write_gives pen.old pen.new (codes "swap " ++ (a.now ++ 32 ∷ b.now)) }
 {
     pen.put(b"swap ");
     put_named(pen, a, b);
@@ -80,7 +80,7 @@ fn put_swap<K: Sink>(pen: &mut Pen<K>, a: &[u8], b: &[u8])
 fn put_stack<K: Sink>(pen: &mut Pen<K>, objects: &IndexMap<String, Object>, operation: StackOp)
     requires lie { LieFrom 1 (names_of objects.now) }
     requires sized { AreSized (names_of objects.now) }
-    ensures { Puts K.written K.faults K.write_gives pen.old pen.new (line_text (line_of (names_of objects.now) (stack_words operation.stack operation.act))) }
+    ensures { PenPuts K.written K.faults K.write_gives pen.old pen.new (line_text (canonical_line (names_of objects.now) (stack_words operation.stack operation.act))) }
 {
     let name = name_at(objects, operation.stack.base().0);
     match operation.act {
@@ -95,7 +95,7 @@ fn put_stack<K: Sink>(pen: &mut Pen<K>, objects: &IndexMap<String, Object>, oper
 fn put_queue<K: Sink>(pen: &mut Pen<K>, objects: &IndexMap<String, Object>, operation: QueueOp)
     requires lie { LieFrom 1 (names_of objects.now) }
     requires sized { AreSized (names_of objects.now) }
-    ensures { Puts K.written K.faults K.write_gives pen.old pen.new (line_text (line_of (names_of objects.now) (queue_words operation.queue operation.act))) }
+    ensures { PenPuts K.written K.faults K.write_gives pen.old pen.new (line_text (canonical_line (names_of objects.now) (queue_words operation.queue operation.act))) }
 {
     let name = name_at(objects, operation.queue.base().0);
     match operation.act {
@@ -128,7 +128,7 @@ fn put_table<K: Sink>(
 )
     requires lie { LieFrom 1 (names_of objects.now) }
     requires sized { AreSized (names_of objects.now) }
-    ensures { Puts K.written K.faults K.write_gives pen.old pen.new (line_text (line_of (names_of objects.now) (table_words table act))) }
+    ensures { PenPuts K.written K.faults K.write_gives pen.old pen.new (line_text (canonical_line (names_of objects.now) (table_words table act))) }
 {
     let name = name_at(objects, base_of(table));
     match act {
@@ -142,7 +142,7 @@ fn put_table<K: Sink>(
 fn put_mvar<K: Sink>(pen: &mut Pen<K>, objects: &IndexMap<String, Object>, operation: MvarOp)
     requires lie { LieFrom 1 (names_of objects.now) }
     requires sized { AreSized (names_of objects.now) }
-    ensures { Puts K.written K.faults K.write_gives pen.old pen.new (line_text (line_of (names_of objects.now) (mvar_words operation.mvar operation.act))) }
+    ensures { PenPuts K.written K.faults K.write_gives pen.old pen.new (line_text (canonical_line (names_of objects.now) (mvar_words operation.mvar operation.act))) }
 {
     let name = name_at(objects, operation.mvar.base().0);
     match operation.act {
@@ -155,7 +155,7 @@ fn put_mvar<K: Sink>(pen: &mut Pen<K>, objects: &IndexMap<String, Object>, opera
 fn put_promise<K: Sink>(pen: &mut Pen<K>, objects: &IndexMap<String, Object>, operation: PromiseOp)
     requires lie { LieFrom 1 (names_of objects.now) }
     requires sized { AreSized (names_of objects.now) }
-    ensures { Puts K.written K.faults K.write_gives pen.old pen.new (line_text (line_of (names_of objects.now) (promise_words operation.promise operation.act))) }
+    ensures { PenPuts K.written K.faults K.write_gives pen.old pen.new (line_text (canonical_line (names_of objects.now) (promise_words operation.promise operation.act))) }
 {
     let name = name_at(objects, operation.promise.base().0);
     match operation.act {
@@ -168,7 +168,7 @@ fn put_promise<K: Sink>(pen: &mut Pen<K>, objects: &IndexMap<String, Object>, op
 fn put_acc<K: Sink>(pen: &mut Pen<K>, objects: &IndexMap<String, Object>, operation: AccOp)
     requires lie { LieFrom 1 (names_of objects.now) }
     requires sized { AreSized (names_of objects.now) }
-    ensures { Puts K.written K.faults K.write_gives pen.old pen.new (line_text (line_of (names_of objects.now) (acc_words operation.acc operation.act))) }
+    ensures { PenPuts K.written K.faults K.write_gives pen.old pen.new (line_text (canonical_line (names_of objects.now) (acc_words operation.acc operation.act))) }
 {
     let name = name_at(objects, operation.acc.base().0);
     match operation.act {
@@ -180,7 +180,7 @@ fn put_acc<K: Sink>(pen: &mut Pen<K>, objects: &IndexMap<String, Object>, operat
 fn put_cache<K: Sink>(pen: &mut Pen<K>, objects: &IndexMap<String, Object>, operation: CacheOp)
     requires lie { LieFrom 1 (names_of objects.now) }
     requires sized { AreSized (names_of objects.now) }
-    ensures { Puts K.written K.faults K.write_gives pen.old pen.new (line_text (line_of (names_of objects.now) (cache_words operation.cache operation.act))) }
+    ensures { PenPuts K.written K.faults K.write_gives pen.old pen.new (line_text (canonical_line (names_of objects.now) (cache_words operation.cache operation.act))) }
 {
     let name = name_at(objects, operation.cache.base().0);
     match operation.act {
@@ -196,7 +196,7 @@ fn put_cache<K: Sink>(pen: &mut Pen<K>, objects: &IndexMap<String, Object>, oper
 pub fn put_op<K: Sink>(pen: &mut Pen<K>, objects: &IndexMap<String, Object>, operation: Op)
     requires lie { LieFrom 1 (names_of objects.now) }
     requires sized { AreSized (names_of objects.now) }
-    ensures { Puts K.written K.faults K.write_gives pen.old pen.new (line_text (op_line (names_of objects.now) operation)) }
+    ensures { PenPuts K.written K.faults K.write_gives pen.old pen.new (line_text (canonical_op_line (names_of objects.now) operation)) }
 {
     match operation {
         Op::Loc(operation) => put_loc(pen, objects, operation),

@@ -1,13 +1,13 @@
 //! Lines by their shapes, without their ends.
 
 ghost use Rattle.std.specs.Prelude.{◌++◌, ◌∷◌, decimal};
-ghost use Rattle.kc_model.specs.Pen.{Puts};
+ghost use Rattle.kc_model.specs.Pen.{PenPuts};
 
 use kc_model::{Pen, Sink};
 
 /// A word and a name.
 pub fn put_named<K: Sink>(pen: &mut Pen<K>, word: &[u8], name: &[u8])
-    ensures { Puts K.written K.faults K.write_gives pen.old pen.new (word.now ++ 32 ∷ name.now) }
+    ensures { PenPuts K.written K.faults K.write_gives pen.old pen.new (word.now ++ 32 ∷ name.now) }
 {
     pen.put(word);
     pen.put(b" ");
@@ -16,7 +16,7 @@ pub fn put_named<K: Sink>(pen: &mut Pen<K>, word: &[u8], name: &[u8])
 
 /// A word and a number.
 pub fn put_numeral<K: Sink>(pen: &mut Pen<K>, word: &[u8], number: u32)
-    ensures { Puts K.written K.faults K.write_gives pen.old pen.new (word.now ++ 32 ∷ decimal number) }
+    ensures { PenPuts K.written K.faults K.write_gives pen.old pen.new (word.now ++ 32 ∷ decimal number) }
 {
     pen.put(word);
     pen.put(b" ");
@@ -25,7 +25,7 @@ pub fn put_numeral<K: Sink>(pen: &mut Pen<K>, word: &[u8], number: u32)
 
 /// A word, a name and a number.
 pub fn put_number<K: Sink>(pen: &mut Pen<K>, word: &[u8], name: &[u8], number: u32)
-    ensures { Puts K.written K.faults K.write_gives pen.old pen.new (word.now ++ 32 ∷ (name.now ++ 32 ∷ decimal number)) }
+    ensures { PenPuts K.written K.faults K.write_gives pen.old pen.new (word.now ++ 32 ∷ (name.now ++ 32 ∷ decimal number)) }
 {
     pen.put(word);
     pen.put(b" ");
@@ -36,7 +36,7 @@ pub fn put_number<K: Sink>(pen: &mut Pen<K>, word: &[u8], name: &[u8], number: u
 
 /// A word, a name and two numbers.
 pub fn put_numbers<K: Sink>(pen: &mut Pen<K>, word: &[u8], name: &[u8], first: u32, second: u32)
-    ensures { Puts K.written K.faults K.write_gives pen.old pen.new (word.now ++ 32 ∷ (name.now ++ 32 ∷ (decimal first ++ 32 ∷ decimal second))) }
+    ensures { PenPuts K.written K.faults K.write_gives pen.old pen.new (word.now ++ 32 ∷ (name.now ++ 32 ∷ (decimal first ++ 32 ∷ decimal second))) }
 {
     pen.put(word);
     pen.put(b" ");
@@ -49,7 +49,7 @@ pub fn put_numbers<K: Sink>(pen: &mut Pen<K>, word: &[u8], name: &[u8], first: u
 
 /// A word, a name, what was chosen and a number.
 pub fn put_choice<K: Sink>(pen: &mut Pen<K>, word: &[u8], name: &[u8], choice: &[u8], number: u32)
-    ensures { Puts K.written K.faults K.write_gives pen.old pen.new (word.now ++ 32 ∷ (name.now ++ 32 ∷ (choice.now ++ 32 ∷ decimal number))) }
+    ensures { PenPuts K.written K.faults K.write_gives pen.old pen.new (word.now ++ 32 ∷ (name.now ++ 32 ∷ (choice.now ++ 32 ∷ decimal number))) }
 {
     pen.put(word);
     pen.put(b" ");

@@ -5,7 +5,7 @@ use Rattle.std.specs.Prelude.{slice_get}
 use Rattle.std.specs.Option.{option_map}
 use Rattle.kc_history.proofs.Choice.{some_is}
 use Rattle.kc_history.proofs.Ready.{same_or, more_same, more_other}
-use Rattle.kc_history.specs.Order.{Footprints, Chooses, IsCanonical, more, raised}
+use Rattle.kc_history.specs.Order.{Footprints, Chooses, IsCanonical, one_record_more, raised}
 use Rattle.kc_history.specs.Records.{record_at, footprint_at}
 use Rattle.kc_history.specs.declared.record.Mark.{Mark}
 use Rattle.kc_history.specs.declared.record.Place.{Place}
@@ -19,8 +19,8 @@ use Rattle.kc_model.specs.declared.footprint.Seen.{Seen}
 use Rattle.kc_model.specs.declared.reply.Answer.{Answer}
 use Rattle.kc_script_bundle.specs.Script.{Script}
 use Rattle.kc_script_bundle.specs.declared.operation.Command.{Command}
-use Rattle.kc_script_runs.specs.Labels.{Label, label, labels, AreThreads}
-use Rattle.kc_script_runs.specs.Run.{IsCommit, IsRun, Replays, opening_store}
+use Rattle.kc_script_runs.specs.Labels.{Label, label, labels, ThreadsHaveRecords}
+use Rattle.kc_script_runs.specs.Run.{IsCommit, IsScriptRun, Replays, opening_store}
 use Rattle.kc_xt.specs.Commit.{kept, run_on}
 use Rattle.kc_xt.specs.Meaning.{Meaning, Makes, Touch}
 
@@ -113,7 +113,7 @@ get_mapped f [] j x e = absurd (cc)
 get_mapped f (y ∷ xs) zero x e = ap (λ z. Some (f z)) (some_is y x e)
 get_mapped f (y ∷ xs) (suc j) x e = get_mapped f xs j x e
 
-pub labelled_at : (thread : ℕ) (threads : List (List Command)) (records : List (List Record)) → AreThreads thread threads records → (t k : ℕ) (r : Record) → record_at records t k ≡ Some r → label_at thread threads t k ≡ Some (label r)
+pub labelled_at : (thread : ℕ) (threads : List (List Command)) (records : List (List Record)) → ThreadsHaveRecords thread threads records → (t k : ℕ) (r : Record) → record_at records t k ≡ Some r → label_at thread threads t k ≡ Some (label r)
 labelled_at thread [] [] h t k r at = absurd (cc)
 labelled_at thread [] (rs ∷ records) h t k r at = absurd h
 labelled_at thread (cs ∷ threads) [] h t k r at = absurd h
@@ -133,7 +133,7 @@ record_is r q l h =
     let one : r ≡ record { thread = q.thread; mark = q.mark; answer = r.answer; footprint = r.footprint } = ap₂ (λ (x : ℕ) (y : Mark). let z : Record = record { thread = x; mark = y; answer = r.answer; footprint = r.footprint } in z) t m in
     one ∙ ap₂ (λ (a : Answer) (f : Footprint). let z : Record = record { thread = q.thread; mark = q.mark; answer = a; footprint = f } in z) h.0 h.1
 
-module _ (limit : ℕ) (threads : List (List Command)) (records others : List (List Record)) (labelled : AreThreads 1 threads records) (also : AreThreads 1 threads others) where
+module _ (limit : ℕ) (threads : List (List Command)) (records others : List (List Record)) (labelled : ThreadsHaveRecords 1 threads records) (also : ThreadsHaveRecords 1 threads others) where
   -- places that are replayed from one store lead to one store, with one record at each
   pub replays_are_one : (ps : List Place) (s e d : Store) → Replays limit threads records s ps e → Replays limit threads others s ps d → (e ≡ d) × ((p : Place) → Contains ps p → record_at records p.thread p.index ≡ record_at others p.thread p.index)
   replays_are_one [] s e d h k = (h ∙ sym k, λ p (i, lt, is). absurd (omega arith))
@@ -163,12 +163,12 @@ chosen_has a (p ∷ ps) n v m w (f, chosen, rest) u k le lt = elim (same_or u p.
         let index : p.index ≡ k = chosen.ready.next.0 ∙ ap n (sym e) ∙ sym i in
         (0, omega arith, ap₂ place (sym e) index)
     | inr ne ↦
-        let stands : more p.thread n u ≡ n u + 1 = more_same p.thread n u e in
-        later p ps (place u k) (chosen_has a ps (more p.thread n) (raised f v) m w rest u k (omega arith) lt)
+        let stands : one_record_more p.thread n u ≡ n u + 1 = more_same p.thread n u e in
+        later p ps (place u k) (chosen_has a ps (one_record_more p.thread n) (raised f v) m w rest u k (omega arith) lt)
   ]
   | inr ne ↦
-      let stands : more p.thread n u ≡ n u = more_other p.thread n u ne in
-      later p ps (place u k) (chosen_has a ps (more p.thread n) (raised f v) m w rest u k (omega arith) lt)
+      let stands : one_record_more p.thread n u ≡ n u = more_other p.thread n u ne in
+      later p ps (place u k) (chosen_has a ps (one_record_more p.thread n) (raised f v) m w rest u k (omega arith) lt)
 ] where
   later : (p : Place) (ps : List Place) (q : Place) → Contains ps q → Contains (p ∷ ps) q
   later p ps q (i, lt, is) = (suc i, omega arith, is)
@@ -186,7 +186,7 @@ same_list (x ∷ xs) [] same = absurd (cc (same zero))
 same_list {X} (x ∷ xs) (y ∷ ys) same = ap₂ (λ (z : X) (zs : List X). z ∷ zs) (some_is x y (same zero)) (same_list xs ys (λ k. same (suc k)))
 
 -- lists for the same threads, with the same record at each place, are the same
-pub same_lists : (j : ℕ) (threads : List (List Command)) (records others : List (List Record)) → AreThreads j threads records → AreThreads j threads others → ((t k : ℕ) → record_at records t k ≡ record_at others t k) → records ≡ others
+pub same_lists : (j : ℕ) (threads : List (List Command)) (records others : List (List Record)) → ThreadsHaveRecords j threads records → ThreadsHaveRecords j threads others → ((t k : ℕ) → record_at records t k ≡ record_at others t k) → records ≡ others
 same_lists j [] [] [] h i same = refl
 same_lists j [] [] (q ∷ others) h i same = absurd i
 same_lists j [] (r ∷ records) others h i same = absurd h
@@ -196,7 +196,7 @@ same_lists j (cs ∷ threads) (rs ∷ records) (qs ∷ others) h i same =
     ap₂ (λ (z : List Record) (zs : List (List Record)). z ∷ zs) (same_list rs qs (λ k. same zero k)) (same_lists (j + 1) threads records others h.1 i.1 (λ t k. same (suc t) k))
 
 -- the order of a run determines its records and its last store
-pub runs_are_one : (script : Script) (records others : List (List Record)) (order : List Place) (last end : Store) → IsRun script records order last → IsRun script others order end → (records ≡ others) × (last ≡ end)
+pub runs_are_one : (script : Script) (records others : List (List Record)) (order : List Place) (last end : Store) → IsScriptRun script records order last → IsScriptRun script others order end → (records ≡ others) × (last ≡ end)
 runs_are_one script records others order last end run also =
     let one = replays_are_one script.limit script.threads records others run.threads also.threads order (opening_store script) last end run.replays also.replays in
     let at : (t k : ℕ) → record_at records t k ≡ record_at others t k = λ t k. by t k (record_at records t k) (record_at others t k) refl refl one.1 in

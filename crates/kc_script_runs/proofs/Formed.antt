@@ -29,7 +29,7 @@ use Rattle.kc_script_bundle.specs.On.{CommandIsOn, CommandsAreOn}
 use Rattle.kc_script_bundle.specs.Script.{Names, Script, LieFrom}
 use Rattle.kc_script_bundle.specs.State.{AreWellFormed, opening_contents}
 use Rattle.kc_script_bundle.specs.declared.operation.Command.{Command}
-use Rattle.kc_script_runs.specs.Run.{IsCommit, IsRun, Replays, opening_store}
+use Rattle.kc_script_runs.specs.Run.{IsCommit, IsScriptRun, Replays, opening_store}
 use Rattle.kc_script_runs.specs.Threads.{asked, meanings}
 use Rattle.kc_xt.specs.Commit.{answer_of, kept, run_on}
 
@@ -136,6 +136,6 @@ module _ (limit : ℕ) (names : Names) (lie : LieFrom 1 names) where
       replays_formed threads records (after r.footprint s) e ps on rest (meant_formed (p.thread + 1) m s r (meant (p.thread + 1) (slice_index_or threads p.thread []) (on p.thread) p.index m means) commit formed)
 
 -- the cells of all objects stand for contents at the end of a run
-pub run_formed : (script : Script) (records : List (List Record)) (order : List Place) (last : Store) → LieFrom 1 script.objects → ((t : ℕ) → CommandsAreOn script.objects (slice_index_or script.threads t [])) → IsRun script records order last → AreWellFormed script.objects (values last)
+pub run_formed : (script : Script) (records : List (List Record)) (order : List Place) (last : Store) → LieFrom 1 script.objects → ((t : ℕ) → CommandsAreOn script.objects (slice_index_or script.threads t [])) → IsScriptRun script records order last → AreWellFormed script.objects (values last)
 run_formed script records order last lie on run =
     replays_formed script.limit script.objects lie script.threads records (opening_store script) last order on run.replays (opening_contents script.objects, script_opens _ script.objects lie)

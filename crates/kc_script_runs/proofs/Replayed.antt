@@ -5,10 +5,10 @@ use Rattle.std.specs.Option.{option_map}
 use Rattle.kc_history.proofs.Choice.{some_is}
 use Rattle.kc_history.proofs.Entries.{just_legal}
 use Rattle.kc_history.proofs.Exchange.{canonical_legal}
-use Rattle.kc_history.specs.Callers.{of_caller, entries_of, HasJust, IsBelowCallers}
+use Rattle.kc_history.specs.Callers.{of_caller, record_entries, HasJust, IsBelowCallers}
 use Rattle.kc_history.specs.Ends.{CanStandIn, AllCanStandIn, HasLegalList}
 use Rattle.kc_history.specs.Moves.{placed_from}
-use Rattle.kc_history.specs.Order.{IsCanonical, Legal, more}
+use Rattle.kc_history.specs.Order.{IsCanonical, Legal, one_record_more}
 use Rattle.kc_history.specs.Records.{record_at, footprint_at}
 use Rattle.kc_history.specs.declared.record.Place.{Place}
 use Rattle.kc_history.specs.declared.record.Record.{Record}
@@ -21,7 +21,7 @@ use Rattle.kc_script_bundle.specs.Script.{Script}
 use Rattle.kc_script_bundle.specs.State.{opening_values}
 use Rattle.kc_script_bundle.specs.declared.operation.Command.{Command}
 use Rattle.kc_script_runs.proofs.Given.{ones_added, run_by_threads}
-use Rattle.kc_script_runs.specs.Run.{Replays, IsRun, opening_store}
+use Rattle.kc_script_runs.specs.Run.{Replays, IsScriptRun, opening_store}
 use Rattle.kc_script_runs.specs.Threads.{AreAnswered, AreRun, GivesOne, IsAnswered, meanings}
 use Rattle.kc_xt.specs.Meaning.{Meaning}
 
@@ -79,21 +79,21 @@ module _ (limit : ℕ) where
       let other : e.caller ≢ u = λ same. (let b = below 0 e (omega arith) in omega arith) in
       ap (λ b. if b then e ∷ of_caller u es else of_caller u es) (ne_eqb e.caller u other) ∙ none_of u n le es (λ i d lt. below (suc i) d (omega arith))
 
-  just_from : (n k : ℕ) (history : List Entry) (threads : List (List Command)) (records : List (List Record)) → AreRun limit n k history threads records → IsBelowCallers (k + length threads) history → (u : ℕ) → of_caller (k + u) history ≡ entries_of (k + u) 1 (slice_index_or records u [])
+  just_from : (n k : ℕ) (history : List Entry) (threads : List (List Command)) (records : List (List Record)) → AreRun limit n k history threads records → IsBelowCallers (k + length threads) history → (u : ℕ) → of_caller (k + u) history ≡ record_entries (k + u) 1 (slice_index_or records u [])
   just_from n k history [] [] h below u = none_of (k + u) (k + 0) (omega arith) history below
   just_from n k history [] (rs ∷ records) h below u = absurd h
   just_from n k history (cs ∷ threads) [] h below u = absurd h
-  just_from n k history (cs ∷ threads) (rs ∷ records) h below zero = let z : k ≡ k + 0 = omega arith in subst (λ (j : ℕ). of_caller j history ≡ entries_of j 1 rs) z (ones_added k (meanings limit (k + 1) cs) [] rs (of_caller k history) h.0.committed)
+  just_from n k history (cs ∷ threads) (rs ∷ records) h below zero = let z : k ≡ k + 0 = omega arith in subst (λ (j : ℕ). of_caller j history ≡ record_entries j 1 rs) z (ones_added k (meanings limit (k + 1) cs) [] rs (of_caller k history) h.0.committed)
   just_from n k history (cs ∷ threads) (rs ∷ records) h below (suc u) =
       let z : suc k + u ≡ k + suc u = omega arith in
       let more : k + length (cs ∷ threads) ≡ suc k + length threads = omega arith in
-      subst (λ (j : ℕ). of_caller j history ≡ entries_of j 1 (slice_index_or records u [])) z (just_from n (suc k) history threads records h.1 (subst (λ (m : ℕ). IsBelowCallers m history) more below) u)
+      subst (λ (j : ℕ). of_caller j history ≡ record_entries j 1 (slice_index_or records u [])) z (just_from n (suc k) history threads records h.1 (subst (λ (m : ℕ). IsBelowCallers m history) more below) u)
 
   pub run_just : (n : ℕ) (history : List Entry) (threads : List (List Command)) (records : List (List Record)) → AreRun limit n 0 history threads records → IsBelowCallers (length threads) history → HasJust records history
   run_just n history threads records h below u =
       let z : 0 + u ≡ u = omega arith in
       let more : length threads ≡ 0 + length threads = omega arith in
-      subst (λ (j : ℕ). of_caller j history ≡ entries_of j 1 (slice_index_or records u [])) z (just_from n 0 history threads records h (subst (λ (m : ℕ). IsBelowCallers m history) more below) u)
+      subst (λ (j : ℕ). of_caller j history ≡ record_entries j 1 (slice_index_or records u [])) z (just_from n 0 history threads records h (subst (λ (m : ℕ). IsBelowCallers m history) more below) u)
 
   -- ---- they can be arranged
 
@@ -133,7 +133,7 @@ opened_zero (v ∷ values) (suc l) = opened_zero values l
 
 module _ (script : Script) (n : ℕ) (history : List Entry) (records : List (List Record)) (run : AreRun script.limit n 0 history script.threads records) where
   -- in an order that is canonical and legal they are a run
-  pub run_of_order : (order : List Place) (last : Store) → IsCanonical (footprint_at records) order → Legal (footprint_at records) (λ _. 0) (opening_store script) order last → IsRun script records order last
+  pub run_of_order : (order : List Place) (last : Store) → IsCanonical (footprint_at records) order → Legal (footprint_at records) (λ _. 0) (opening_store script) order last → IsScriptRun script records order last
   run_of_order order last canonical legal = record {
     threads = run_by_threads script.limit GivesOne n 0 1 refl history script.threads records run;
     canonical = canonical;
@@ -147,6 +147,6 @@ module _ (script : Script) (n : ℕ) (history : List Entry) (records : List (Lis
     pub run_has_list : HasLegalList (footprint_at records)
     run_has_list = record { opening = opening_store script; opens = opened_zero (opening_values script); places = placed_from (λ _. 0) history; ending = last; legal = run_list }
 
-    pub run_is : (order : List Place) → IsCanonical (footprint_at records) order → IsRun script records order last
+    pub run_is : (order : List Place) → IsCanonical (footprint_at records) order → IsScriptRun script records order last
     run_is order canonical =
         run_of_order order last canonical (canonical_legal (footprint_at records) (puts_read script.limit n history script.threads records run) (opening_store script) last (placed_from (λ _. 0) history) order (opened_zero (opening_values script)) run_list canonical).0

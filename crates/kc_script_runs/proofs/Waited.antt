@@ -4,7 +4,7 @@ use Rattle.std.specs.Option.{option_map}
 use Rattle.std.proofs.Math.Path.{fun_ext}
 use Rattle.std.proofs.lemmas.Bool.Decides.{nat_tests}
 use Rattle.std.proofs.lemmas.List.Elements.{All-cons, All-nil}
-use Rattle.kc_history.specs.Callers.{entry_of}
+use Rattle.kc_history.specs.Callers.{record_entry}
 use Rattle.kc_loc.specs.Meaning.{loc_program}
 use Rattle.kc_model.specs.Footprint.{IsWellMade, Reads, put_at, read_at}
 use Rattle.kc_model.specs.Store.{Store, Finds}
@@ -14,7 +14,7 @@ use Rattle.kc_model.specs.declared.footprint.Seen.{Seen}
 use Rattle.kc_model.specs.declared.footprint.TheConstants.{LAST_VERSION, MOST}
 use Rattle.kc_model.specs.declared.plain_store.Cell.{Cell}
 use Rattle.kc_script_bundle.specs.Meaning.{thread_meaning}
-use Rattle.kc_script_runs.specs.Looks.{GivesBehindLooks, IsLook}
+use Rattle.kc_script_runs.specs.Looks.{GivesBehindLooks, IsWaitingTry}
 use Rattle.kc_script_runs.specs.Worked.{waits_for_nine, looks_at_x_and_live, missed, met, look_and_commit}
 use Rattle.kc_xt.specs.Commit.{Waits, run_on}
 use Rattle.kc_xt.specs.Meaning.{Makes, Meaning, Run, given_up, is_touched, last_written, retried, values}
@@ -78,10 +78,10 @@ waits = record {
 
 pub given : GivesBehindLooks 1 check [] met look_and_commit
 given = record {
-  looks = entry_of 1 1 missed ∷ [];
+  looks = record_entry 1 1 missed ∷ [];
   number = 2;
   added = refl;
-  each = All-cons (IsLook 1 check) _ [] (record { own = refl; puts_nothing = refl; waits = waits }) (All-nil (IsLook 1 check));
+  each = All-cons (IsWaitingTry 1 check) _ [] (record { own = refl; puts_nothing = refl; waits = waits }) (All-nil (IsWaitingTry 1 check));
   rising = (omega arith, tt);
 }
 
@@ -96,7 +96,7 @@ last_behind d (x ∷ es) e = last_behind x es e
 
 pub not_the_last : GivesBehindLooks 1 check [] missed look_and_commit → ⊥
 not_the_last g =
-    let d : Entry = entry_of 0 0 met in
-    let same : met ≡ missed = ap (λ (l : List Entry). (last_of d l).footprint) g.added ∙ ap (λ (e : Entry). e.footprint) (last_behind d g.looks (entry_of 1 g.number missed)) in
+    let d : Entry = record_entry 0 0 met in
+    let same : met ≡ missed = ap (λ (l : List Entry). (last_of d l).footprint) g.added ∙ ap (λ (e : Entry). e.footprint) (last_behind d g.looks (record_entry 1 g.number missed)) in
     let n : 1 ≡ 2 = ap (λ (f : Footprint). length f.reads.items) same in
     omega (arith, n)

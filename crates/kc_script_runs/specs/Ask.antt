@@ -12,5 +12,5 @@ abbrev pub ask_end : ℕ → Command → ℕ
 ask_end live c = max (command_end c) (min (live + 1) (2 ^ 32 - 1))
 
 -- what comes of a command that would wait, and what comes behind its reply
-abbrev pub alone : ℕ → ℕ → (Reply → Program) → Program
-alone live thread k = read live (λ v. cond (is_flagged thread v) (write live (cleared thread v) (k reply.Cancelled)) (cond (live_threads v == 1) (k reply.Stranded) retries))
+abbrev pub ask_alone_program : ℕ → ℕ → (Reply → Program) → Program
+ask_alone_program live thread k = read live (λ v. cond (is_flagged thread v) (write live (cleared thread v) (k reply.Cancelled)) (cond (live_threads v == 1) (k reply.Stranded) retries))

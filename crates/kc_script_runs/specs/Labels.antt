@@ -18,8 +18,8 @@ labels thread number [] = record { thread = thread; mark = mark.End } ∷ []
 labels thread number (c ∷ cs) = record { thread = thread; mark = mark.Command number } ∷ labels thread (number + 1) cs
 
 -- the threads, numbered from here on, have one record for each command, in order, and then their end
-abbrev pub AreThreads : ℕ → List (List Command) → List (List Record) → Type 0
-AreThreads thread [] [] = Unit {0}
-AreThreads thread (cs ∷ threads) (rs ∷ records) = (map label rs ≡ labels thread 1 cs) × AreThreads (thread + 1) threads records
-AreThreads thread [] (rs ∷ records) = ⊥
-AreThreads thread (cs ∷ threads) [] = ⊥
+abbrev pub ThreadsHaveRecords : ℕ → List (List Command) → List (List Record) → Type 0
+ThreadsHaveRecords thread [] [] = Unit {0}
+ThreadsHaveRecords thread (cs ∷ threads) (rs ∷ records) = (map label rs ≡ labels thread 1 cs) × ThreadsHaveRecords (thread + 1) threads records
+ThreadsHaveRecords thread [] (rs ∷ records) = ⊥
+ThreadsHaveRecords thread (cs ∷ threads) [] = ⊥

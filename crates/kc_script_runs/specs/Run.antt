@@ -9,7 +9,7 @@ use Rattle.kc_model.specs.Store.{Store, Finds, store_of, opened, after}
 use Rattle.kc_script_bundle.specs.Script.{Script}
 use Rattle.kc_script_bundle.specs.State.{Content, AllStand, opening_values, state_lines}
 use Rattle.kc_script_bundle.specs.declared.operation.Command.{Command}
-use Rattle.kc_script_runs.specs.Labels.{AreThreads}
+use Rattle.kc_script_runs.specs.Labels.{ThreadsHaveRecords}
 use Rattle.kc_script_runs.specs.Threads.{meanings}
 use Rattle.kc_xt.specs.Commit.{Answers}
 use Rattle.kc_xt.specs.Meaning.{Meaning, values}
@@ -37,8 +37,8 @@ opening_store script = store_of (opened (opening_values script))
 
 -- The records, in canonical order, are one legal history of the plain store, from the script's opening store to the last one: each thread's commands
 -- stand in it once, in its order, and each is answered its value at its place.
-pub record IsRun (script : Script) (records : List (List Record)) (order : List Place) (last : Store) : Type 0 where
-  pub threads : AreThreads 1 script.threads records
+pub record IsScriptRun (script : Script) (records : List (List Record)) (order : List Place) (last : Store) : Type 0 where
+  pub threads : ThreadsHaveRecords 1 script.threads records
   pub canonical : IsCanonical (footprint_at records) order
   pub replays : Replays script.limit script.threads records (opening_store script) order last
 
@@ -49,10 +49,10 @@ abbrev pub run_text : Script → List (List Record) → List Place → List Cont
 run_text script records order contents = records_text records order ++ codes "state\n" ++ state_lines script.objects contents
 
 -- the records are a run of the script, and this is its text
-pub record IsText (script : Script) (records : List (List Record)) (text : List ℕ) : Type 0 where
+pub record IsRunText (script : Script) (records : List (List Record)) (text : List ℕ) : Type 0 where
   pub order : List Place
   pub last : Store
   pub contents : List Content
-  pub run : IsRun script records order last
+  pub run : IsScriptRun script records order last
   pub stand : AllStand script.objects (values last) contents
   pub spelled : text ≡ run_text script records order contents

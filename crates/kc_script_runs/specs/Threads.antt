@@ -1,6 +1,6 @@
 -- What threads commit, and whose commits they are.
 use Rattle.std.specs.Prelude.{◌≡◌, ℕ, suc, ◌+◌, List, [], ◌∷◌, ◌++◌, length, map}
-use Rattle.kc_history.specs.Callers.{of_caller, entry_of}
+use Rattle.kc_history.specs.Callers.{of_caller, record_entry}
 use Rattle.kc_history.specs.declared.record.Record.{Record}
 use Rattle.kc_model.specs.Footprint.{IsBelow}
 use Rattle.kc_model.specs.declared.footprint.Entry.{Entry}
@@ -37,7 +37,7 @@ CommitGives = ℕ → Meaning → List Entry → Footprint → List Entry → Ty
 
 -- one entry, with the next number from 1 on
 abbrev pub GivesOne : CommitGives
-GivesOne k m before f after = after ≡ before ++ entry_of k (length before + 1) f ∷ []
+GivesOne k m before f after = after ≡ before ++ record_entry k (length before + 1) f ∷ []
 
 module _ (gives : CommitGives) where
   -- what commits of these meanings, one after another, make of their caller's own list, with the footprints of these records

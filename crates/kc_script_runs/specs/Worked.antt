@@ -22,7 +22,7 @@ use Rattle.kc_loc.specs.declared.operation.LocOp.TheVariants as loc
 use Rattle.kc_script_bundle.specs.Script.{Script}
 use Rattle.kc_script_bundle.specs.State.{Content, number}
 use Rattle.kc_history.specs.declared.record.Mark.TheVariants as mark
-use Rattle.kc_history.specs.Callers.{entry_of}
+use Rattle.kc_history.specs.Callers.{record_entry}
 use Rattle.kc_history.specs.declared.record.Place.{Place}
 use Rattle.kc_history.specs.declared.record.Record.{Record}
 
@@ -40,15 +40,15 @@ first_script = record {
 abbrev saw : Loc → ℕ → ℕ → Seen
 saw l version value = record { loc = l; version = version; value = value }
 
-abbrev put : Loc → ℕ → ℕ → Put
-put l version after = record { loc = l; version = version; after = after }
+abbrev worked_put : Loc → ℕ → ℕ → Put
+worked_put l version after = record { loc = l; version = version; after = after }
 
 abbrev pub first_records : List (List Record)
 first_records =
     (record { thread = 1; mark = mark.Command 1; answer = answer.Reply (reply.Value 5); footprint = record { reads = record { items = saw x 0 5 ∷ [] }; puts = record { items = [] } } }
-    ∷ record { thread = 1; mark = mark.Command 2; answer = answer.Reply reply.Unit; footprint = record { reads = record { items = saw x 0 5 ∷ [] }; puts = record { items = put x 0 7 ∷ [] } } }
-    ∷ record { thread = 1; mark = mark.Command 3; answer = answer.Reply (reply.Value 7); footprint = record { reads = record { items = saw x 1 7 ∷ [] }; puts = record { items = put x 1 8 ∷ [] } } }
-    ∷ record { thread = 1; mark = mark.End; answer = answer.Reply reply.Unit; footprint = record { reads = record { items = saw (record { 0 = 0 }) 0 1 ∷ [] }; puts = record { items = put (record { 0 = 0 }) 0 0 ∷ [] } } }
+    ∷ record { thread = 1; mark = mark.Command 2; answer = answer.Reply reply.Unit; footprint = record { reads = record { items = saw x 0 5 ∷ [] }; puts = record { items = worked_put x 0 7 ∷ [] } } }
+    ∷ record { thread = 1; mark = mark.Command 3; answer = answer.Reply (reply.Value 7); footprint = record { reads = record { items = saw x 1 7 ∷ [] }; puts = record { items = worked_put x 1 8 ∷ [] } } }
+    ∷ record { thread = 1; mark = mark.End; answer = answer.Reply reply.Unit; footprint = record { reads = record { items = saw (record { 0 = 0 }) 0 1 ∷ [] }; puts = record { items = worked_put (record { 0 = 0 }) 0 0 ∷ [] } } }
     ∷ []) ∷ []
 
 abbrev at : ℕ → Place
@@ -85,29 +85,29 @@ two_script = record {
   threads = (command.One (op.Loc (loc.FetchAdd x 1)) ∷ []) ∷ (command.One (op.Loc (loc.Get x)) ∷ []) ∷ [];
 }
 
-abbrev print : List Seen → List Put → Footprint
-print reads puts = record { reads = record { items = reads }; puts = record { items = puts } }
+abbrev worked_print : List Seen → List Put → Footprint
+worked_print reads puts = record { reads = record { items = reads }; puts = record { items = puts } }
 
 abbrev live : Loc
 live = record { 0 = 0 }
 
 -- the second thread looks at x before the first one adds to it
-abbrev added : Footprint
-added = print (saw x 0 0 ∷ []) (put x 0 1 ∷ [])
+abbrev added_print : Footprint
+added_print = worked_print (saw x 0 0 ∷ []) (worked_put x 0 1 ∷ [])
 
-abbrev looked : Footprint
-looked = print (saw x 0 0 ∷ []) []
+abbrev looked_print : Footprint
+looked_print = worked_print (saw x 0 0 ∷ []) []
 
 abbrev first_ended : Footprint
-first_ended = print (saw live 0 2 ∷ []) (put live 0 1 ∷ [])
+first_ended = worked_print (saw live 0 2 ∷ []) (worked_put live 0 1 ∷ [])
 
 abbrev second_ended : Footprint
-second_ended = print (saw live 1 1 ∷ []) (put live 1 0 ∷ [])
+second_ended = worked_print (saw live 1 1 ∷ []) (worked_put live 1 0 ∷ [])
 
 abbrev pub two_records : List (List Record)
 two_records =
-    (record { thread = 1; mark = mark.Command 1; answer = answer.Reply (reply.Value 0); footprint = added } ∷ record { thread = 1; mark = mark.End; answer = answer.Reply reply.Unit; footprint = first_ended } ∷ [])
-    ∷ (record { thread = 2; mark = mark.Command 1; answer = answer.Reply (reply.Value 0); footprint = looked } ∷ record { thread = 2; mark = mark.End; answer = answer.Reply reply.Unit; footprint = second_ended } ∷ []) ∷ []
+    (record { thread = 1; mark = mark.Command 1; answer = answer.Reply (reply.Value 0); footprint = added_print } ∷ record { thread = 1; mark = mark.End; answer = answer.Reply reply.Unit; footprint = first_ended } ∷ [])
+    ∷ (record { thread = 2; mark = mark.Command 1; answer = answer.Reply (reply.Value 0); footprint = looked_print } ∷ record { thread = 2; mark = mark.End; answer = answer.Reply reply.Unit; footprint = second_ended } ∷ []) ∷ []
 
 abbrev of_thread : ℕ → ℕ → Place
 of_thread thread index = record { thread = thread; index = index }
@@ -118,7 +118,7 @@ two_order = of_thread 1 0 ∷ of_thread 0 0 ∷ of_thread 0 1 ∷ of_thread 1 1 
 
 -- a history that has just these records
 abbrev pub two_history : List Entry
-two_history = entry_of 1 1 looked ∷ entry_of 0 1 added ∷ entry_of 0 2 first_ended ∷ entry_of 1 2 second_ended ∷ []
+two_history = record_entry 1 1 looked_print ∷ record_entry 0 1 added_print ∷ record_entry 0 2 first_ended ∷ record_entry 1 2 second_ended ∷ []
 
 abbrev pub two_contents : List Content
 two_contents = number 1 ∷ []
@@ -127,24 +127,24 @@ two_contents = number 1 ∷ []
 
 -- a second caller checks that x is 9 while it has 8
 abbrev pub missed : Footprint
-missed = print (saw live 0 2 ∷ saw x 0 8 ∷ []) []
+missed = worked_print (saw live 0 2 ∷ saw x 0 8 ∷ []) []
 
 -- the first one sets it
 abbrev pub made_nine : Footprint
-made_nine = print (saw x 0 8 ∷ []) (put x 0 9 ∷ [])
+made_nine = worked_print (saw x 0 8 ∷ []) (worked_put x 0 9 ∷ [])
 
 -- the second one tries again
 abbrev pub met : Footprint
-met = print (saw x 1 9 ∷ []) []
+met = worked_print (saw x 1 9 ∷ []) []
 
 abbrev pub look_and_commit : List Entry
-look_and_commit = entry_of 1 1 missed ∷ entry_of 1 2 met ∷ []
+look_and_commit = record_entry 1 1 missed ∷ record_entry 1 2 met ∷ []
 
 abbrev pub waited_history : List Entry
-waited_history = entry_of 1 1 missed ∷ entry_of 0 1 made_nine ∷ entry_of 1 2 met ∷ []
+waited_history = record_entry 1 1 missed ∷ record_entry 0 1 made_nine ∷ record_entry 1 2 met ∷ []
 
 abbrev pub commits_alone : List Entry
-commits_alone = entry_of 0 1 made_nine ∷ entry_of 1 1 met ∷ []
+commits_alone = record_entry 0 1 made_nine ∷ record_entry 1 1 met ∷ []
 
 -- ---- cancels
 
@@ -175,11 +175,11 @@ answered i r f = record { thread = 1; mark = mark.Command i; answer = answer.Rep
 
 abbrev pub cancel_records : List (List Record)
 cancel_records =
-    (answered 1 reply.Unit (print (saw live 0 one_live ∷ []) (put live 0 first_flagged ∷ []))
-    ∷ answered 2 reply.Cancelled (print (saw live 1 first_flagged ∷ saw x 0 0 ∷ []) (put live 1 one_live ∷ []))
-    ∷ answered 3 (reply.Value 0) (print (saw x 0 0 ∷ []) [])
-    ∷ answered 4 reply.Stranded (print (saw live 2 one_live ∷ saw x 0 0 ∷ []) [])
-    ∷ record { thread = 1; mark = mark.End; answer = answer.Reply reply.Unit; footprint = print (saw live 2 one_live ∷ []) (put live 2 0 ∷ []) }
+    (answered 1 reply.Unit (worked_print (saw live 0 one_live ∷ []) (worked_put live 0 first_flagged ∷ []))
+    ∷ answered 2 reply.Cancelled (worked_print (saw live 1 first_flagged ∷ saw x 0 0 ∷ []) (worked_put live 1 one_live ∷ []))
+    ∷ answered 3 (reply.Value 0) (worked_print (saw x 0 0 ∷ []) [])
+    ∷ answered 4 reply.Stranded (worked_print (saw live 2 one_live ∷ saw x 0 0 ∷ []) [])
+    ∷ record { thread = 1; mark = mark.End; answer = answer.Reply reply.Unit; footprint = worked_print (saw live 2 one_live ∷ []) (worked_put live 2 0 ∷ []) }
     ∷ []) ∷ []
 
 abbrev pub cancel_order : List Place
@@ -192,11 +192,11 @@ cancel_contents = number 0 ∷ []
 abbrev pub holding : ℕ → Store
 holding v l = cond (l == 1) (record { version = 0; value = 0 }) (record { version = 0; value = v })
 
-abbrev pub looks : ℕ → Touch
-looks l = record { cell = l; wrote = None }
+abbrev pub look_touch : ℕ → Touch
+look_touch l = record { cell = l; wrote = None }
 
-abbrev pub writes : ℕ → ℕ → Touch
-writes l v = record { cell = l; wrote = Some v }
+abbrev pub write_touch : ℕ → ℕ → Touch
+write_touch l v = record { cell = l; wrote = Some v }
 
 -- a block of cancel 1, check x eq 1
 abbrev pub cancels_and_waits : Command

@@ -7,7 +7,7 @@ ghost use Rattle.kc_xt.specs.Law.{Obeys};
 ghost use Rattle.kc_xt.specs.Steps.{Does};
 ghost use Rattle.kc_script_bundle.specs.Live.{IsThreadNumber};
 ghost use Rattle.kc_script_bundle.specs.Meaning.{CommandIsFit, thread_meaning};
-ghost use Rattle.kc_script_runs.specs.Ask.{alone, ask_end};
+ghost use Rattle.kc_script_runs.specs.Ask.{ask_alone_program, ask_end};
 
 use kc_model::{Loc, MOST, Reply};
 use kc_script_bundle::{Command, cleared, is_flagged, live_threads};
@@ -88,7 +88,7 @@ fn is_retry(tried: &Result<Reply, Stop>) -> bool
 fn run_alone<P: Peek>(live: Loc, thread: u32, xt: &mut Xt<P>) -> Result<Reply, Stop>
     requires thread { IsThreadNumber thread }
     requires within { live.0 + 1 ≤ P.locations xt.old.peek }
-    ensures goes { Does P.peek_gives (alone live.0 thread) xt.old result xt.new }
+    ensures goes { Does P.peek_gives (ask_alone_program live.0 thread) xt.old result xt.new }
     ensures size { P.locations xt.new.peek ≡ P.locations xt.old.peek }
 {
     let value = xt.get(live)?;

@@ -1,6 +1,6 @@
 -- Operations on a cache write and reply small numbers.
 use Rattle.std.proofs.Common.{ℕ, ◌+◌, ◌-◌, ◌==◌, Bool, true, false, Option, Some, None, arith}
-use Rattle.kc_cache.specs.Meaning.{add_program, cache_program, counted, dropped_program, enter_program, freed_program, got_program, is_unit, listed_program, node_named, number_in, oldest_program, order_of, placed_program, renew_program, replace_program, table_of, taken_program, value_program, valued_program, with_number, write_program}
+use Rattle.kc_cache.specs.Meaning.{cache_add_program, cache_program, cache_counted, dropped_program, enter_program, freed_program, got_program, is_unit, listed_program, node_named, number_in, oldest_program, order_of, cache_placed_program, renew_program, replace_program, table_of, taken_program, value_program, valued_program, with_number, write_program}
 use Rattle.kc_cache.specs.declared.cache.Cache.{Cache}
 use Rattle.kc_cache.specs.declared.operation.CacheAct.{CacheAct}
 use Rattle.kc_cache.specs.declared.operation.CacheAct.TheVariants as act
@@ -51,16 +51,16 @@ module _ (c : Cache) where
   named_small None = zero_small
   named_small (Some n) = node_small (order_of c) n
 
-  counted_small : (s : ℕ) → IsSmall (counted c s)
+  counted_small : (s : ℕ) → IsSmall (cache_counted c s)
   counted_small s = let laid = c.laid in omega (arith, laid)
 
-  fewer_small : (s : ℕ) → IsSmall (counted c s - 1)
+  fewer_small : (s : ℕ) → IsSmall (cache_counted c s - 1)
   fewer_small s = let laid = c.laid in omega (arith, laid)
 
-  more_small : (s : ℕ) → IsSmall (counted c s + 1)
+  more_small : (s : ℕ) → IsSmall (cache_counted c s + 1)
   more_small s = let laid = c.laid in omega (arith, laid)
 
-  left_small : (s : ℕ) → IsSmall (c.cap - counted c s)
+  left_small : (s : ℕ) → IsSmall (c.cap - cache_counted c s)
   left_small s = let laid = c.laid in omega (arith, laid)
 
   on_number : (r : Reply) (none : Program) (f : ℕ → Program) → OneSmall r → StaysSmall none → ((i : ℕ) → IsSmall i → StaysSmall (f i)) → StaysSmall (with_number (number_in r) none f)
@@ -98,18 +98,18 @@ module _ (c : Cache) where
     replace_small : (key v : ℕ) → IsSmall key → IsSmall v → StaysSmall (replace_program c key v k)
     replace_small key v small also = dllist_small (order_of c) list.Last (λ r. oldest_program c key v r k) tt (λ r one. on_number r (k reply.Full) (λ old. hash_program (table_of c) (table.Del old) (λ q. dropped_program c key v q k)) one (b reply.Full tt) (λ old third. hash_small (table_of c) (table.Del old) (λ q. dropped_program c key v q k) (third, tt) (λ q _. dropped_small key v q small also)))
 
-    add_small : (waits : Bool) (key v : ℕ) → IsSmall key → IsSmall v → StaysSmall (add_program c waits key v k)
-    add_small waits key v small also = λ s _. small_if (counted c s == 0) _ _ (small_if waits _ _ tt (replace_small key v small also)) (fewer_small s, enter_small key v small also)
+    add_small : (waits : Bool) (key v : ℕ) → IsSmall key → IsSmall v → StaysSmall (cache_add_program c waits key v k)
+    add_small waits key v small also = λ s _. small_if (cache_counted c s == 0) _ _ (small_if waits _ _ tt (replace_small key v small also)) (fewer_small s, enter_small key v small also)
 
-    place_small : (waits : Bool) (key v : ℕ) (r : Reply) → OneSmall r → IsSmall key → IsSmall v → StaysSmall (placed_program c waits key v r k)
-    place_small waits key v r one small also = on_number r (add_program c waits key v k) (λ n. renew_program c (node_in (order_of c) n) v k) one (add_small waits key v small also) (λ n _. renew_small (node_in (order_of c) n) v (node_small (order_of c) n) also)
+    place_small : (waits : Bool) (key v : ℕ) (r : Reply) → OneSmall r → IsSmall key → IsSmall v → StaysSmall (cache_placed_program c waits key v r k)
+    place_small waits key v r one small also = on_number r (cache_add_program c waits key v k) (λ n. renew_program c (node_in (order_of c) n) v k) one (add_small waits key v small also) (λ n _. renew_small (node_in (order_of c) n) v (node_small (order_of c) n) also)
 
     taken_small : (r : Reply) → StaysSmall (taken_program c r k)
     taken_small r = let i = node_named c (number_in r) in small_if (i == 0) _ _ (b reply.Empty tt) (dllist_small (order_of c) (list.Remove i) (λ _. freed_program c i k) (named_small (number_in r)) (λ _ _ s _. (more_small s, value_small i)))
 
     pub cache_small : (a : CacheAct) → NumbersFit (cache_words c a) → StaysSmall (cache_program c a k)
-    cache_small (act.CPut key v) n = hash_small (table_of c) (table.Find key) (λ r. placed_program c false key v r k) (n.0, tt) (λ r one. place_small false key v r one n.0 n.1.0)
-    cache_small (act.CPutWait key v) n = hash_small (table_of c) (table.Find key) (λ r. placed_program c true key v r k) (n.0, tt) (λ r one. place_small true key v r one n.0 n.1.0)
+    cache_small (act.CPut key v) n = hash_small (table_of c) (table.Find key) (λ r. cache_placed_program c false key v r k) (n.0, tt) (λ r one. place_small false key v r one n.0 n.1.0)
+    cache_small (act.CPutWait key v) n = hash_small (table_of c) (table.Find key) (λ r. cache_placed_program c true key v r k) (n.0, tt) (λ r one. place_small true key v r one n.0 n.1.0)
     cache_small (act.CGet key) n = hash_small (table_of c) (table.Find key) (λ r. got_program c r k) n (λ r _. got_small r)
     cache_small (act.CDel key) n = hash_small (table_of c) (table.Del key) (λ r. taken_program c r k) n (λ r _. taken_small r)
-    cache_small act.Len n = λ s _. b (reply.Value (c.cap - counted c s)) (left_small s)
+    cache_small act.Len n = λ s _. b (reply.Value (c.cap - cache_counted c s)) (left_small s)

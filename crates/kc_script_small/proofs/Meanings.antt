@@ -8,7 +8,7 @@ use Rattle.kc_script_bundle.specs.Live.{cleared, is_flagged, live_threads}
 use Rattle.kc_script_bundle.specs.Meaning.{alone_program, op_meaning, op_program}
 use Rattle.kc_script_bundle.specs.declared.operation.Op.{Op}
 use Rattle.kc_script_small.proofs.Programs.{EndsSmall, OneSmall, StaysSmall, small_if}
-use Rattle.kc_script_small.specs.Small.{Fits, IsSmall, ItemFits}
+use Rattle.kc_script_small.specs.Small.{AnswerFits, IsSmall, ItemFits}
 use Rattle.kc_term.specs.Fit.{Each}
 use Rattle.kc_term.specs.Meaning.{items_of, parts_meaning, term_meaning}
 use Rattle.kc_term.specs.Tree.{Tree, Trees, all_operations, first, more, none, operations, op as one, seq}
@@ -199,7 +199,7 @@ fit_all [] h k d lt = absurd (omega arith)
 fit_all (i ∷ items) h zero d lt = h.0
 fit_all (i ∷ items) h (suc k) d lt = fit_all items h.1 k d (omega arith)
 
-pub reply_fits : (a : Reply) → ReplyTo 16 a → Fits (answer.Reply a)
+pub reply_fits : (a : Reply) → ReplyTo 16 a → AnswerFits (answer.Reply a)
 reply_fits reply.Unit h = tt
 reply_fits (reply.Value v) h = h.1.0
 reply_fits (reply.Bool b) h = tt

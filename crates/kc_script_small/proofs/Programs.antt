@@ -23,13 +23,13 @@ use Rattle.kc_loc.specs.declared.operation.LocOp.{LocOp}
 use Rattle.kc_loc.specs.declared.operation.LocOp.TheVariants as loc
 use Rattle.kc_model.specs.declared.reply.Reply.{Reply}
 use Rattle.kc_model.specs.declared.reply.Reply.TheVariants as reply
-use Rattle.kc_queue.specs.Meaning.{counted as queue_counted, head_in, queue_program, second_of}
+use Rattle.kc_queue.specs.Meaning.{queue_counted, queue_head_in, queue_program, queue_second_of}
 use Rattle.kc_queue.specs.declared.operation.QueueAct.{QueueAct}
 use Rattle.kc_queue.specs.declared.operation.QueueAct.TheVariants as queue
 use Rattle.kc_queue.specs.declared.queue.Queue.{Queue}
 use Rattle.kc_script_small.specs.Small.{IsSmall}
 use Rattle.kc_script_verbs.specs.Canonical.{Part, acc_words, fun_words, loc_words, mvar_words, promise_words, queue_words, stack_words}
-use Rattle.kc_stack.specs.Meaning.{counted as stack_counted, stack_program}
+use Rattle.kc_stack.specs.Meaning.{stack_counted, stack_program}
 use Rattle.kc_stack.specs.declared.operation.StackAct.{StackAct}
 use Rattle.kc_stack.specs.declared.operation.StackAct.TheVariants as stack
 use Rattle.kc_stack.specs.declared.stack.Stack.{Stack}
@@ -169,11 +169,11 @@ module _ (q : Queue) where
   queue_fewer : (n : ℕ) → IsSmall n → IsSmall (queue_counted q n - 1)
   queue_fewer n h = omega (arith, h)
 
-  second_small : (h : ℕ) → IsSmall (second_of q h)
+  second_small : (h : ℕ) → IsSmall (queue_second_of q h)
   second_small h = let laid = q.laid in let lt = mod-lt (h + 1) q.some in omega (arith, laid, lt)
 
-  deq_small : (n : ℕ) (k : Reply → Program) → IsSmall n → Behind k → (h : ℕ) → IsSmall h → (v : ℕ) → IsSmall v → IsSmall (second_of q (head_in q h)) × (IsSmall (queue_counted q n - 1) × StaysSmall (k (reply.Value v)))
-  deq_small n k small b h also v third = (second_small (head_in q h), (queue_fewer n small, b (reply.Value v) third))
+  deq_small : (n : ℕ) (k : Reply → Program) → IsSmall n → Behind k → (h : ℕ) → IsSmall h → (v : ℕ) → IsSmall v → IsSmall (queue_second_of q (queue_head_in q h)) × (IsSmall (queue_counted q n - 1) × StaysSmall (k (reply.Value v)))
+  deq_small n k small b h also v third = (second_small (queue_head_in q h), (queue_fewer n small, b (reply.Value v) third))
 
   pub queue_small : (a : QueueAct) (k : Reply → Program) → NumbersFit (queue_words q a) → Behind k → StaysSmall (queue_program q a k)
   unfolding queue_program

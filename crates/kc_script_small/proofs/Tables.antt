@@ -1,13 +1,13 @@
 -- Operations on tables of both kinds write and reply small numbers.
 use Rattle.std.proofs.Common.{ℕ, zero, suc, ◌+◌, ◌-◌, ◌≤◌, ◌==◌, Option, Some, None, arith}
 use Rattle.kc_chain.proofs.Within.{link_within}
-use Rattle.kc_chain.specs.Meaning.{counted, del_program, find_program, found_program, head_cell, length_program, link_of, next_cell, nodes_program, placed_program, put_program, removed_program, walk_program}
+use Rattle.kc_chain.specs.Meaning.{chain_counted, del_program, find_program, found_program, head_cell, length_program, link_of, next_cell, nodes_program, placed_program, put_program, removed_program, walk_program}
 use Rattle.kc_chain.specs.declared.acts.Placed.{Placed}
 use Rattle.kc_chain.specs.declared.acts.Placed.TheVariants as placed
 use Rattle.kc_chain.specs.declared.layout.Chains.{Chains}
 use Rattle.kc_chain.specs.declared.walk.Place.{Place}
 use Rattle.kc_grow.proofs.GrowLaw.{buckets_within}
-use Rattle.kc_grow.specs.Meaning.{bucket_of as grown_bucket, buckets_of, chains_of as grown_chains, grow_program, grown_program, moves, part_program, split_program, splits}
+use Rattle.kc_grow.specs.Meaning.{grown_bucket, buckets_of, grown_chains, grow_program, grown_program, moves, part_program, split_program, splits}
 use Rattle.kc_grow.specs.declared.grow.Grow.{Grow}
 use Rattle.kc_grow.specs.declared.operation.GrowAct.{GrowAct}
 use Rattle.kc_grow.specs.declared.operation.GrowAct.TheVariants as grow
@@ -35,13 +35,13 @@ module _ (h : Chains) (few : h.cap ≤ 65536) where
   link_small : (n : ℕ) → IsSmall (link_of h n)
   link_small n = let le = link_within h n in omega (arith, le, few)
 
-  counted_small : (n : ℕ) → IsSmall (counted h n)
+  counted_small : (n : ℕ) → IsSmall (chain_counted h n)
   counted_small n = omega (arith, few)
 
-  more_small : (n : ℕ) → IsSmall (counted h n + 1)
+  more_small : (n : ℕ) → IsSmall (chain_counted h n + 1)
   more_small n = omega (arith, few)
 
-  fewer_small : (n : ℕ) → IsSmall (counted h n - 1)
+  fewer_small : (n : ℕ) → IsSmall (chain_counted h n - 1)
   fewer_small n = omega (arith, few)
 
   nodes_small : (key n from node : ℕ) (k : Option Place → Program) → IsSmall node → ((o : Option Place) → NodeSmall o → StaysSmall (k o)) → StaysSmall (nodes_program h key n from node k)
@@ -63,7 +63,7 @@ module _ (h : Chains) (few : h.cap ≤ 65536) where
   put_small key value bucket k small also b = walk_small key bucket (placed_program h key value bucket k) by
     where
       by : (o : Option Place) → NodeSmall o → StaysSmall (placed_program h key value bucket k o)
-      by None node = λ free f. small_if (link_of h free == 0) _ _ (b placed.Full) (λ next g. (link_small next, (small, (also, λ head i. (link_small head, (link_small free, λ n j. (more_small n, b (placed.Added (counted h n + 1)))))))))
+      by None node = λ free f. small_if (link_of h free == 0) _ _ (b placed.Full) (λ next g. (link_small next, (small, (also, λ head i. (link_small head, (link_small free, λ n j. (more_small n, b (placed.Added (chain_counted h n + 1)))))))))
       by (Some p) node = (also, b placed.Changed)
 
   pub del_small : (key bucket : ℕ) (k : Reply → Program) → Behind k → StaysSmall (del_program h key bucket k)
@@ -74,7 +74,7 @@ module _ (h : Chains) (few : h.cap ≤ 65536) where
       by (Some p) node = λ next f. (link_small next, λ free g. (link_small free, (node, λ n i. (fewer_small n, λ v j. b (reply.Value v) j))))
 
   pub length_small : (k : Reply → Program) → Behind k → StaysSmall (length_program h k)
-  length_small k b = λ n small. b (reply.Value (counted h n)) (counted_small n)
+  length_small k b = λ n small. b (reply.Value (chain_counted h n)) (counted_small n)
 
   -- ---- a chain in two
 

@@ -17,11 +17,11 @@ ItemFits (item.Value n) = IsSmall n
 ItemFits other = Unit {0}
 
 -- the answer's numbers are such as a location holds, and it has at most 16 items
-abbrev pub Fits : Answer → Type 0
-Fits (answer.Reply (reply.Value n)) = IsSmall n
-Fits (answer.Reply (reply.Many items)) = (length items ≤ 16) × All ItemFits items
-Fits other = Unit {0}
+abbrev pub AnswerFits : Answer → Type 0
+AnswerFits (answer.Reply (reply.Value n)) = IsSmall n
+AnswerFits (answer.Reply (reply.Many items)) = (length items ≤ 16) × All ItemFits items
+AnswerFits other = Unit {0}
 
 -- each record's answer does
-abbrev pub AllFit : List (List Record) → Type 0
-AllFit records = (thread index : ℕ) (r : Record) → record_at records thread index ≡ Some r → Fits r.answer
+abbrev pub AllAnswersFit : List (List Record) → Type 0
+AllAnswersFit records = (thread index : ℕ) (r : Record) → record_at records thread index ≡ Some r → AnswerFits r.answer

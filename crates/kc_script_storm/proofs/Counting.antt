@@ -10,7 +10,7 @@ use Rattle.kc_history.proofs.Choice.{some_is}
 use Rattle.kc_history.proofs.Kept.{blank}
 use Rattle.kc_history.specs.Records.{head_in, lists_of}
 use Rattle.kc_history.specs.RecordsValue.{RecordsValue}
-use Rattle.kc_history.specs.Text.{bare}
+use Rattle.kc_history.specs.Text.{bare_record}
 use Rattle.kc_history.specs.declared.record.Head.{Head}
 use Rattle.kc_history.specs.declared.record.Record.{Record}
 use Rattle.kc_model.specs.declared.reply.Item.{Item}
@@ -45,12 +45,12 @@ oks_le-commits (rs ∷ records) =
     omega (arith, a, b, one, rest)
 
 -- one more record is looked at, by its head
-pub ok_more : (rs : List Record) (i : ℕ) (h : Head) → i < length rs → option_map head_in (slice_get rs i) ≡ Some h → count_by is_ok_command (take (i + 1) rs) ≡ count_by is_ok_command (take i rs) + cond (is_ok_command (bare h)) 1 0
+pub ok_more : (rs : List Record) (i : ℕ) (h : Head) → i < length rs → option_map head_in (slice_get rs i) ≡ Some h → count_by is_ok_command (take (i + 1) rs) ≡ count_by is_ok_command (take i rs) + cond (is_ok_command (bare_record h)) 1 0
 ok_more rs i h lt at = sum_by_more (λ (r : Record). cond (is_ok_command r) 1 0) rs i blank lt ∙ ap (λ b. count_by is_ok_command (take i rs) + cond b 1 0) (by_head rs i lt at)
   where
-    by_head : (rs : List Record) (i : ℕ) → i < length rs → option_map head_in (slice_get rs i) ≡ Some h → is_ok_command (get_or rs i blank) ≡ is_ok_command (bare h)
+    by_head : (rs : List Record) (i : ℕ) → i < length rs → option_map head_in (slice_get rs i) ≡ Some h → is_ok_command (get_or rs i blank) ≡ is_ok_command (bare_record h)
     by_head [] i lt at = absurd (omega arith)
-    by_head (r ∷ rs) zero lt at = ap (λ (g : Head). is_ok_command (bare g)) (some_is (head_in r) h at)
+    by_head (r ∷ rs) zero lt at = ap (λ (g : Head). is_ok_command (bare_record g)) (some_is (head_in r) h at)
     by_head (r ∷ rs) (suc i) lt at = by_head rs i (omega arith) at
 
 -- ---- items

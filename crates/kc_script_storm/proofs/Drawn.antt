@@ -9,18 +9,18 @@ use Rattle.kc_script_bundle.proofs.Standing.{all_show}
 use Rattle.kc_script_bundle.specs.Meaning.{thread_meaning}
 use Rattle.kc_script_bundle.specs.State.{state_lines, state_text, opening_values}
 use Rattle.kc_script_bundle.specs.declared.operation.Command.{Command}
-use Rattle.kc_script_runs.specs.Run.{IsRun, opening_store}
+use Rattle.kc_script_runs.specs.Run.{IsScriptRun, opening_store}
 use Rattle.kc_script_storm.proofs.Adding.{Small, Adds, modify_adds, incr_adds, bump_adds, both_adds, asked_adds}
 use Rattle.kc_script_storm.proofs.Ordered.{AllAdd, ThreadsAdd, sums_of, run_counts, run_values, threads_add}
 use Rattle.kc_script_storm.specs.State.{at_cell, command_adds, all_adds, storm_state}
-use Rattle.kc_script_storm.specs.Storm.{accumulator, first_place, other_place, amount, kind, high, next_draw, command_of, drawn_commands, storm_thread, storm_script, storm_objects}
+use Rattle.kc_script_storm.specs.Storm.{accumulator, first_place, other_place, amount, kind, high, next_draw, storm_command, drawn_commands, storm_thread, storm_script, storm_objects}
 use Rattle.kc_script_storm.specs.Summary.{commits, ok_commands, summary_lines, summary_text, IsSummary}
 use Rattle.kc_xt.specs.Meaning.{values}
 use Rattle.kc_xt.specs.Program.{wrapped}
 
 -- ---- its threads
 
-drawn_adds : (number thread x k : ℕ) → Adds (thread_meaning 0 number (command_of thread x k)) (command_adds (command_of thread x k))
+drawn_adds : (number thread x k : ℕ) → Adds (thread_meaning 0 number (storm_command thread x k)) (command_adds (storm_command thread x k))
 drawn_adds number thread x zero = modify_adds number (first_place x + 1) (amount x)
 drawn_adds number thread x (suc zero) = bump_adds number accumulator (thread - 1) (amount x)
 drawn_adds number thread x (suc (suc zero)) = both_adds number (first_place x + 1) (amount x) (other_place x + 1) (2 ^ 32 - amount x)
@@ -29,7 +29,7 @@ drawn_adds number thread x (suc (suc (suc k))) = incr_adds number (first_place x
 commands_add : (thread count s : ℕ) → AllAdd (drawn_commands thread count s)
 unfolding drawn_commands
 commands_add thread zero s = tt
-commands_add thread (suc count) s = (λ number. asked_adds number (command_of thread (high (next_draw s)) (kind (high (next_draw s)))) _ (drawn_adds number thread (high (next_draw s)) (kind (high (next_draw s)))), commands_add thread count (next_draw s))
+commands_add thread (suc count) s = (λ number. asked_adds number (storm_command thread (high (next_draw s)) (kind (high (next_draw s)))) _ (drawn_adds number thread (high (next_draw s)) (kind (high (next_draw s)))), commands_add thread count (next_draw s))
 
 pub length-commands : (thread count s : ℕ) → length (drawn_commands thread count s) ≡ count
 unfolding drawn_commands
@@ -66,7 +66,7 @@ four f k a b c d ea eb ec ed =
 longer : (thread s : ℕ) → length (drawn_commands thread 2000 s) + 1 ≡ 2001
 longer thread s = ap (λ (k : ℕ). k + 1) (length-commands thread 2000 s)
 
-module _ (n : ℕ) (records : List (List Record)) (order : List Place) (last : Store) (run : IsRun (storm_script n) records order last) where
+module _ (n : ℕ) (records : List (List Record)) (order : List Place) (last : Store) (run : IsScriptRun (storm_script n) records order last) where
   pub storm_commits : commits records ≡ 8004
   storm_commits = (run_counts (storm_script n) records order last run (storm_adds n) refl).0 ∙ four (λ cs. length cs + 1) 2001 (storm_thread n 1) (storm_thread n 2) (storm_thread n 3) (storm_thread n 4) (longer 1 _) (longer 2 _) (longer 3 _) (longer 4 _)
 

@@ -4,7 +4,7 @@ use Rattle.std.proofs.Math.Path.{fun_ext}
 use Rattle.std.proofs.lemmas.List.Sums.{sum_by-cons}
 use Rattle.kc_history.proofs.Choice.{some_is}
 use Rattle.kc_history.proofs.Ready.{no_some, same_or, more_same, more_other}
-use Rattle.kc_history.specs.Order.{more}
+use Rattle.kc_history.specs.Order.{one_record_more}
 
 abbrev pub left : {X : Type 0} → (X → ℕ) → List (List X) → (ℕ → ℕ) → ℕ
 left w [] n = 0
@@ -20,20 +20,20 @@ module _ {X : Type 0} (w : X → ℕ) where
   rest_step xs k x e = rest_suc xs k x e ∙ ap (λ j. w x + sum_by w (drop j xs)) (sym (add-one k))
 
   -- one more is taken
-  pub left_step : (lists : List (List X)) (n : ℕ → ℕ) (t : ℕ) (x : X) → slice_get (slice_index_or lists t []) (n t) ≡ Some x → left w lists n ≡ w x + left w lists (more t n)
+  pub left_step : (lists : List (List X)) (n : ℕ → ℕ) (t : ℕ) (x : X) → slice_get (slice_index_or lists t []) (n t) ≡ Some x → left w lists n ≡ w x + left w lists (one_record_more t n)
   left_step [] n t x e = absurd (no_some x e)
   left_step (xs ∷ lists) n zero x e =
       let a = rest_step xs (n zero) x e in
-      let b : sum_by w (drop (more zero n zero) xs) ≡ sum_by w (drop (n zero + 1) xs) = ap (λ k. sum_by w (drop k xs)) (more_same zero n zero refl) in
-      let d : left w lists (λ u. more zero n (suc u)) ≡ left w lists (λ u. n (suc u)) = ap (left w lists) (fun_ext (λ u. more_other zero n (suc u) (λ e. omega arith))) in
+      let b : sum_by w (drop (one_record_more zero n zero) xs) ≡ sum_by w (drop (n zero + 1) xs) = ap (λ k. sum_by w (drop k xs)) (more_same zero n zero refl) in
+      let d : left w lists (λ u. one_record_more zero n (suc u)) ≡ left w lists (λ u. n (suc u)) = ap (left w lists) (fun_ext (λ u. more_other zero n (suc u) (λ e. omega arith))) in
       omega arith
   left_step (xs ∷ lists) n (suc t) x e =
       let a = left_step lists (λ u. n (suc u)) t x e in
-      let b : sum_by w (drop (more (suc t) n zero) xs) ≡ sum_by w (drop (n zero) xs) = ap (λ k. sum_by w (drop k xs)) (more_other (suc t) n zero (λ e. omega arith)) in
-      let d : left w lists (λ u. more (suc t) n (suc u)) ≡ left w lists (more t (λ u. n (suc u))) = ap (left w lists) (fun_ext (behind t n)) in
+      let b : sum_by w (drop (one_record_more (suc t) n zero) xs) ≡ sum_by w (drop (n zero) xs) = ap (λ k. sum_by w (drop k xs)) (more_other (suc t) n zero (λ e. omega arith)) in
+      let d : left w lists (λ u. one_record_more (suc t) n (suc u)) ≡ left w lists (one_record_more t (λ u. n (suc u))) = ap (left w lists) (fun_ext (behind t n)) in
       omega arith
     where
-      behind : (t : ℕ) (n : ℕ → ℕ) (u : ℕ) → more (suc t) n (suc u) ≡ more t (λ u. n (suc u)) u
+      behind : (t : ℕ) (n : ℕ → ℕ) (u : ℕ) → one_record_more (suc t) n (suc u) ≡ one_record_more t (λ u. n (suc u)) u
       behind t n u = elim (same_or u t) [
         | inl e ↦ more_same (suc t) n (suc u) (ap suc e) ∙ sym (more_same t (λ u. n (suc u)) u e)
         | inr e ↦ more_other (suc t) n (suc u) (λ h. e (omega arith)) ∙ sym (more_other t (λ u. n (suc u)) u e)

@@ -5,7 +5,7 @@ use Rattle.kc_script_bundle.specs.declared.object.Object.TheVariants as object
 use Rattle.kc_script_bundle.specs.On.{IsLocation, CommandIsOn, CommandsAreOn}
 use Rattle.kc_script_bundle.specs.Script.{LieFrom, next_from, LiesInOrder, AreSized, HasObject}
 use Rattle.kc_script_storm.proofs.Drawn.{length-commands}
-use Rattle.kc_script_storm.specs.Storm.{accumulator, place, kind, high, next_draw, command_of, drawn_commands, storm_script, storm_objects}
+use Rattle.kc_script_storm.specs.Storm.{accumulator, storm_place, kind, high, next_draw, storm_command, drawn_commands, storm_script, storm_objects}
 
 pub storm_lies : (n : ℕ) → LiesInOrder (storm_script n)
 unfolding LieFrom next_from
@@ -21,7 +21,7 @@ thread_length n (suc (suc zero)) lt = length-commands 3 2000 _
 thread_length n (suc (suc (suc zero))) lt = length-commands 4 2000 _
 thread_length n (suc (suc (suc (suc t)))) lt = absurd (omega arith)
 
-declared : (i : ℕ) → i < 8 → HasObject storm_objects (object.Loc (place i) 0)
+declared : (i : ℕ) → i < 8 → HasObject storm_objects (object.Loc (storm_place i) 0)
 declared zero lt = inl refl
 declared (suc zero) lt = inr (inl refl)
 declared (suc (suc zero)) lt = inr (inr (inl refl))
@@ -32,13 +32,13 @@ declared (suc (suc (suc (suc (suc (suc zero)))))) lt = inr (inr (inr (inr (inr (
 declared (suc (suc (suc (suc (suc (suc (suc zero))))))) lt = inr (inr (inr (inr (inr (inr (inr (inl refl)))))))
 declared (suc (suc (suc (suc (suc (suc (suc (suc i)))))))) lt = absurd (omega arith)
 
-on_place : (k : ℕ) → IsLocation storm_objects (place (k % 8))
+on_place : (k : ℕ) → IsLocation storm_objects (storm_place (k % 8))
 on_place k = (0, declared (k % 8) (mod-lt k (lit< tt)))
 
 on_accumulator : HasObject storm_objects (object.Acc accumulator)
 on_accumulator = inr (inr (inr (inr (inr (inr (inr (inr (inl refl))))))))
 
-drawn_on : (thread x k : ℕ) → CommandIsOn storm_objects (command_of thread x k)
+drawn_on : (thread x k : ℕ) → CommandIsOn storm_objects (storm_command thread x k)
 drawn_on thread x zero = on_place x
 drawn_on thread x (suc zero) = on_accumulator
 drawn_on thread x (suc (suc zero)) = (lit≤ tt, (on_place x, (on_place _, tt)))

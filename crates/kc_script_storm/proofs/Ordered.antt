@@ -17,14 +17,14 @@ use Rattle.kc_xt.specs.Program.{wrapped}
 use Rattle.kc_history.specs.declared.record.Mark.TheVariants as mark
 use Rattle.kc_history.proofs.Choice.{some_is}
 use Rattle.kc_history.proofs.Ready.{no_some, same_or, more_same, more_other}
-use Rattle.kc_history.specs.Order.{Legal, NoneLeft, more}
+use Rattle.kc_history.specs.Order.{Legal, NoneLeft, one_record_more}
 use Rattle.kc_history.specs.Records.{record_at, footprint_at}
 use Rattle.kc_history.specs.declared.record.Place.{Place}
 use Rattle.kc_history.specs.declared.record.Record.{Record}
 use Rattle.kc_script_runs.proofs.Formed.{left_by, answered_reply}
 use Rattle.kc_script_runs.proofs.Legals.{run_legal}
-use Rattle.kc_script_runs.specs.Labels.{Label, label, labels, AreThreads}
-use Rattle.kc_script_runs.specs.Run.{IsCommit, IsRun, Replays, opening_store}
+use Rattle.kc_script_runs.specs.Labels.{Label, label, labels, ThreadsHaveRecords}
+use Rattle.kc_script_runs.specs.Run.{IsCommit, IsScriptRun, Replays, opening_store}
 use Rattle.kc_script_runs.specs.Threads.{meanings, asked}
 use Rattle.kc_script_storm.proofs.Adding.{Small, Adds, ended, ended_adds, small_wrapped}
 use Rattle.kc_script_storm.proofs.Left.{left, left_step, left_none, left_all}
@@ -76,7 +76,7 @@ found_in thread [] h (suc i) m e = absurd (cc)
 found_in thread (c ∷ cs) h zero m e = record { adds = command_adds c; stands = refl; adding = subst (λ (q : Meaning). Adds q (command_adds c)) (some_is (asked MOST thread c) m e) (h.0 thread) }
 found_in thread (c ∷ cs) h (suc i) m e = let r = found_in thread cs h.1 i m e in record { adds = r.adds; stands = r.stands; adding = r.adding }
 
-found : (k : ℕ) (threads : List (List Command)) (records : List (List Record)) → AreThreads k threads records → ThreadsAdd threads → (t i thread : ℕ) (m : Meaning) (r : Record) → slice_get (meanings MOST thread (slice_index_or threads t [])) i ≡ Some m → record_at records t i ≡ Some r → Found (slice_index_or (map sums_of threads) t []) i m
+found : (k : ℕ) (threads : List (List Command)) (records : List (List Record)) → ThreadsHaveRecords k threads records → ThreadsAdd threads → (t i thread : ℕ) (m : Meaning) (r : Record) → slice_get (meanings MOST thread (slice_index_or threads t [])) i ≡ Some m → record_at records t i ≡ Some r → Found (slice_index_or (map sums_of threads) t []) i m
 found k [] [] are h t i thread m r means stands = absurd (no_some r stands)
 found k [] (rs ∷ records) are h t i thread m r means stands = absurd are
 found k (cs ∷ threads) [] are h t i thread m r means stands = absurd are
@@ -100,7 +100,7 @@ length_sums (c ∷ cs) = let h = length_sums cs in omega (arith, h)
 length_records : (t k : ℕ) (cs : List Command) (rs : List Record) → map label rs ≡ labels t k cs → length rs ≡ length cs + 1
 length_records t k cs rs e = sym (length_map label rs) ∙ ap length e ∙ length_labels t k cs
 
-same_lengths : (k : ℕ) (threads : List (List Command)) (records : List (List Record)) → AreThreads k threads records → (u : ℕ) → length (slice_index_or (map sums_of threads) u []) ≡ length (slice_index_or records u [])
+same_lengths : (k : ℕ) (threads : List (List Command)) (records : List (List Record)) → ThreadsHaveRecords k threads records → (u : ℕ) → length (slice_index_or (map sums_of threads) u []) ≡ length (slice_index_or records u [])
 same_lengths k [] [] are u = refl
 same_lengths k [] (rs ∷ records) are u = absurd are
 same_lengths k (cs ∷ threads) [] are u = absurd are
@@ -126,7 +126,7 @@ none_longer records n none u = by (lt_or_le (n u) (length (slice_index_or record
 
 -- ---- in a legal order
 
-module _ (threads : List (List Command)) (records : List (List Record)) (are : AreThreads 1 threads records) (adding : ThreadsAdd threads) where
+module _ (threads : List (List Command)) (records : List (List Record)) (are : ThreadsHaveRecords 1 threads records) (adding : ThreadsAdd threads) where
   -- the last values are the first ones and all that is left
   last_values : (n : ℕ → ℕ) (s e a b : Store) (ps : List Place) → Legal (footprint_at records) n a ps b → Replays MOST threads records s ps e → Small (values s) → (l : ℕ) → values e l ≡ wrapped (values s l + left (λ (f : ℕ → ℕ). f l) (map sums_of threads) n)
   last_values n s e a b [] legal replays small l =
@@ -136,18 +136,18 @@ module _ (threads : List (List Command)) (records : List (List Record)) (are : A
   last_values n s e a b (p ∷ ps) (f, next, finds, rest) (m, r, means, stands, commit, more_of) small l =
       let w : (ℕ → ℕ) → ℕ = λ f. f l in
       let at = found 1 threads records are adding p.thread p.index (p.thread + 1) m r means stands in
-      let step : left w (map sums_of threads) n ≡ at.adds l + left w (map sums_of threads) (more p.thread n) = left_step w (map sums_of threads) n p.thread at.adds (subst (λ (i : ℕ). slice_get (slice_index_or (map sums_of threads) p.thread []) i ≡ Some at.adds) next.0 at.stands) in
-      let whole : values s l + at.adds l + left w (map sums_of threads) (more p.thread n) ≡ values s l + left w (map sums_of threads) n = omega (arith, step) in
-      last_values (more p.thread n) (after r.footprint s) e (after f a) b ps rest more_of (commit_small m at.adds at.adding s r commit small) l
-      ∙ ap (λ (k : ℕ). wrapped (k + left w (map sums_of threads) (more p.thread n))) (commit_leaves m at.adds at.adding s r commit small l)
-      ∙ mod-add-mod (values s l + at.adds l) (2 ^ 32) (left w (map sums_of threads) (more p.thread n))
+      let step : left w (map sums_of threads) n ≡ at.adds l + left w (map sums_of threads) (one_record_more p.thread n) = left_step w (map sums_of threads) n p.thread at.adds (subst (λ (i : ℕ). slice_get (slice_index_or (map sums_of threads) p.thread []) i ≡ Some at.adds) next.0 at.stands) in
+      let whole : values s l + at.adds l + left w (map sums_of threads) (one_record_more p.thread n) ≡ values s l + left w (map sums_of threads) n = omega (arith, step) in
+      last_values (one_record_more p.thread n) (after r.footprint s) e (after f a) b ps rest more_of (commit_small m at.adds at.adding s r commit small) l
+      ∙ ap (λ (k : ℕ). wrapped (k + left w (map sums_of threads) (one_record_more p.thread n))) (commit_leaves m at.adds at.adding s r commit small l)
+      ∙ mod-add-mod (values s l + at.adds l) (2 ^ 32) (left w (map sums_of threads) (one_record_more p.thread n))
       ∙ ap wrapped whole
 
   -- each record that is left is answered `ok`
   records_ok : (n : ℕ → ℕ) (s e a b : Store) (ps : List Place) → Legal (footprint_at records) n a ps b → Replays MOST threads records s ps e → (u k : ℕ) (r : Record) → record_at records u k ≡ Some r → n u ≤ k → all_ok r.answer ≡ true
   records_ok n s e a b [] legal replays u k r stands le = let over = legal.0 u k r.footprint (ap (option_map (λ (q : Record). q.footprint)) stands) in absurd (omega arith)
   records_ok n s e a b (p ∷ ps) (f, next, finds, rest) (m, q, means, is, commit, more_of) u k r stands le =
-      by (records_ok (more p.thread n) (after q.footprint s) e (after f a) b ps rest more_of u k r stands) (same_or u p.thread) (same_or k p.index)
+      by (records_ok (one_record_more p.thread n) (after q.footprint s) e (after f a) b ps rest more_of u k r stands) (same_or u p.thread) (same_or k p.index)
     where
       here : u ≡ p.thread → k ≡ p.index → all_ok r.answer ≡ true
       here eu ek =
@@ -155,7 +155,7 @@ module _ (threads : List (List Command)) (records : List (List Record)) (are : A
           let one : q ≡ r = some_is q r (sym is ∙ ap₂ (λ (i j : ℕ). record_at records i j) (sym eu) (sym ek) ∙ stands) in
           subst (λ (x : Record). all_ok x.answer ≡ true) one (commit_ok m at.adds at.adding s q commit)
 
-      by : (more p.thread n u ≤ k → all_ok r.answer ≡ true) → (u ≡ p.thread) ⊎ (u ≢ p.thread) → (k ≡ p.index) ⊎ (k ≢ p.index) → all_ok r.answer ≡ true
+      by : (one_record_more p.thread n u ≤ k → all_ok r.answer ≡ true) → (u ≡ p.thread) ⊎ (u ≢ p.thread) → (k ≡ p.index) ⊎ (k ≢ p.index) → all_ok r.answer ≡ true
       by later (inl eu) (inl ek) = here eu ek
       by later (inl eu) (inr nk) = later (let taken = more_same p.thread n u eu in let i = next.0 in let v : n u ≡ n p.thread = ap n eu in let less : n u ≢ k = λ e. nk (omega arith) in omega (arith, taken, le, less))
       by later (inr nu) ek = later (let taken = more_other p.thread n u nu in omega (arith, taken, le))
@@ -186,7 +186,7 @@ counts_in t k (c ∷ cs) (r ∷ rs) e ok =
     let first = sum_by-cons (λ (x : Record). cond (is_ok_command x) 1 0) r rs in
     first ∙ rw is (omega (arith, rest))
 
-counts_all : (k : ℕ) (threads : List (List Command)) (records : List (List Record)) → AreThreads k threads records → ((u i : ℕ) (r : Record) → record_at records u i ≡ Some r → all_ok r.answer ≡ true) → ok_commands records ≡ sum_by length threads
+counts_all : (k : ℕ) (threads : List (List Command)) (records : List (List Record)) → ThreadsHaveRecords k threads records → ((u i : ℕ) (r : Record) → record_at records u i ≡ Some r → all_ok r.answer ≡ true) → ok_commands records ≡ sum_by length threads
 counts_all k [] [] are ok = refl
 counts_all k [] (rs ∷ records) are ok = absurd are
 counts_all k (cs ∷ threads) [] are ok = absurd are
@@ -197,7 +197,7 @@ counts_all k (cs ∷ threads) (rs ∷ records) are ok =
     let rest = counts_all (k + 1) threads records are.1 (λ u i r at. ok (suc u) i r at) in
     omega (arith, a, b, first, rest)
 
-commits_all : (k : ℕ) (threads : List (List Command)) (records : List (List Record)) → AreThreads k threads records → commits records ≡ sum_by (λ cs. length cs + 1) threads
+commits_all : (k : ℕ) (threads : List (List Command)) (records : List (List Record)) → ThreadsHaveRecords k threads records → commits records ≡ sum_by (λ cs. length cs + 1) threads
 commits_all k [] [] are = refl
 commits_all k [] (rs ∷ records) are = absurd are
 commits_all k (cs ∷ threads) [] are = absurd are
@@ -248,7 +248,7 @@ threads_add thread (cs ∷ threads) h v small l =
 
 -- ---- runs
 
-module _ (script : Script) (records : List (List Record)) (order : List Place) (last : Store) (run : IsRun script records order last) (adding : ThreadsAdd script.threads) (most : script.limit ≡ MOST) where
+module _ (script : Script) (records : List (List Record)) (order : List Place) (last : Store) (run : IsScriptRun script records order last) (adding : ThreadsAdd script.threads) (most : script.limit ≡ MOST) where
   replays : Replays MOST script.threads records (opening_store script) order last
   replays = subst (λ (n : ℕ). Replays n script.threads records (opening_store script) order last) most run.replays
 

@@ -13,7 +13,7 @@ use Rattle.kc_xt.specs.Meaning.{values}
 use Rattle.kc_history.specs.declared.record.Mark.TheVariants as mark
 use Rattle.kc_history.specs.declared.record.Place.{Place}
 use Rattle.kc_history.specs.declared.record.Record.{Record}
-use Rattle.kc_script_runs.specs.Run.{IsRun}
+use Rattle.kc_script_runs.specs.Run.{IsScriptRun}
 use Rattle.kc_script_storm.specs.State.{storm_state}
 use Rattle.kc_script_storm.specs.Storm.{storm_objects, storm_script}
 
@@ -53,7 +53,7 @@ pub record IsSummary (n : ℕ) (records : List (List Record)) (text : List ℕ) 
   pub order : List Place
   pub last : Store
   pub contents : List Content
-  pub run : IsRun (storm_script n) records order last
+  pub run : IsScriptRun (storm_script n) records order last
   pub stand : AllStand storm_objects (values last) contents
   pub spelled : text ≡ summary_lines n (commits records) (ok_commands records) (state_lines storm_objects contents)
 

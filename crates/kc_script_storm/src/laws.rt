@@ -8,7 +8,7 @@ ghost use Rattle.kc_script_bundle.specs.Script.{LiesInOrder, AreSized};
 ghost use Rattle.kc_script_bundle.specs.On.{CommandsAreOn};
 ghost use Rattle.kc_history.specs.declared.record.Record.{Record};
 ghost use Rattle.kc_history.specs.declared.record.Place.{Place};
-ghost use Rattle.kc_script_runs.specs.Run.{IsRun};
+ghost use Rattle.kc_script_runs.specs.Run.{IsScriptRun};
 ghost use Rattle.kc_script.specs.Canonical.{canonical_text};
 ghost use Rattle.kc_script.specs.Spells.{Spells};
 ghost use Rattle.kc_script_storm.specs.Storm.{storm_script};
@@ -18,9 +18,9 @@ ghost use Rattle.kc_script_storm.specs.Summary.{commits, ok_commands, IsSummary,
 /// Whatever the order in which its commits stand, every run of a storm has 8,004 of them, 8,000 are commands that reply
 /// `ok` alone, and the last store has the values that its threads leave one after another.
 pub fn runs_come_to_one_state()
-    ensures commits { (n : ℕ) (records : List (List Record)) (order : List Place) (last : Store) → IsRun (storm_script n) records order last → commits records ≡ 8004 }
-    ensures oks { (n : ℕ) (records : List (List Record)) (order : List Place) (last : Store) → IsRun (storm_script n) records order last → ok_commands records ≡ 8000 }
-    ensures state { (n : ℕ) (records : List (List Record)) (order : List Place) (last : Store) → IsRun (storm_script n) records order last → values last ≡ storm_state n }
+    ensures commits { (n : ℕ) (records : List (List Record)) (order : List Place) (last : Store) → IsScriptRun (storm_script n) records order last → commits records ≡ 8004 }
+    ensures oks { (n : ℕ) (records : List (List Record)) (order : List Place) (last : Store) → IsScriptRun (storm_script n) records order last → ok_commands records ≡ 8000 }
+    ensures state { (n : ℕ) (records : List (List Record)) (order : List Place) (last : Store) → IsScriptRun (storm_script n) records order last → values last ≡ storm_state n }
 {}
 
 /// A storm has one summary, whichever its run was.

@@ -2,13 +2,13 @@
 
 ghost use Rattle.std.specs.Prelude.{◌≡◌, ◌≤◌, ◌<◌, ◌^◌, count_by, length};
 ghost use Rattle.std.specs.List.{list_all};
-ghost use Rattle.kc_model.specs.Pen.{Puts, Prints};
+ghost use Rattle.kc_model.specs.Pen.{PenPuts, Prints};
 ghost use Rattle.kc_model.specs.Store.{store_of};
 ghost use Rattle.kc_xt.specs.Meaning.{values};
 ghost use Rattle.kc_script_bundle.specs.Script.{names_of, CellsWithin};
 ghost use Rattle.kc_script_bundle.specs.State.{state_text};
 ghost use Rattle.kc_history.specs.Records.{lists_of};
-ghost use Rattle.kc_history.specs.Text.{bare};
+ghost use Rattle.kc_history.specs.Text.{bare_record};
 ghost use Rattle.kc_script_storm.specs.Summary.{is_ok_item, all_ok, is_ok_command, commits, ok_commands, summary_lines};
 
 use kc_history::{Head, Mark, Records};
@@ -44,7 +44,7 @@ pub fn put_summary<K: Sink>(
 )
     requires cells { CellsWithin (length store.now) (names_of bundle.now.objects) }
     requires few { commits (lists_of records.now) < 2 ^ 32 }
-    ensures { Puts K.written K.faults K.write_gives pen.old pen.new (summary_lines number (commits (lists_of records.now)) (ok_commands (lists_of records.now)) (state_text (names_of bundle.now.objects) (values (store_of store.now)))) }
+    ensures { PenPuts K.written K.faults K.write_gives pen.old pen.new (summary_lines number (commits (lists_of records.now)) (ok_commands (lists_of records.now)) (state_text (names_of bundle.now.objects) (values (store_of store.now)))) }
 {
     pen.put(b"storm ");
     pen.put_number(number);
@@ -94,7 +94,7 @@ fn ok_commands_of(list: &Records) -> u32
 }
 
 fn is_ok_command(head: &Head) -> bool
-    ensures { result ≡ is_ok_command (bare head.now) }
+    ensures { result ≡ is_ok_command (bare_record head.now) }
 {
     match head.mark {
         Mark::Command(_) => all_ok(&head.answer),

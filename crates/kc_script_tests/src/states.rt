@@ -1,7 +1,7 @@
 //! The lines that show what objects hold.
 
 ghost use Rattle.std.specs.Prelude.{◌≡◌, ◌≤◌, ◌+◌, ◌∷◌, [], ℕ, List, length, IfOk};
-ghost use Rattle.kc_script_bundle.specs.Script.{names_of, base, cells, IsWithin};
+ghost use Rattle.kc_script_bundle.specs.Script.{names_of, base, cells, ObjectIsWithin};
 
 use indexmap::IndexMap;
 use kc_cache::Cache;
@@ -43,7 +43,7 @@ fn shows(
     values: &[u32],
     text: &str,
 ) -> Result<(), Fail>
-    requires { IsWithin (length values.now) object }
+    requires { ObjectIsWithin (length values.now) object }
 {
     let bundle = bundle_of(alloc, object)?;
     let store = PlainStore::open(alloc, values)?;

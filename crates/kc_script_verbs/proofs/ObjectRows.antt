@@ -28,7 +28,7 @@ use Rattle.kc_script_verbs.proofs.Placing.{few_is, few_made, stack_is, queue_is,
 use Rattle.kc_script_verbs.proofs.Rows.{At, at_respells, respells_at, number_is, number_back, positive_is, positive_back, counted_back}
 use Rattle.kc_script_verbs.proofs.Texts.{kind_text, word_has, kind_read}
 use Rattle.kc_script_verbs.specs.Canonical.{Part, declaring, IsNumeral, Respells, Declares}
-use Rattle.kc_script_verbs.specs.Declaring.{fields, loc_at, stack_at, queue_at, table_at, grow_at, cache_at, mvar_at, promise_at, acc_at, object_at, next, declare, declared_by, declared, IsAt, IsPlaced}
+use Rattle.kc_script_verbs.specs.Declaring.{fields, loc_at, stack_at, queue_at, table_at, grow_at, cache_at, mvar_at, promise_at, acc_at, object_at, next_location, declare, declared_by, declared, IsAt, IsPlaced}
 use Rattle.kc_script_verbs.specs.Objects.{object_of, new_name}
 use Rattle.kc_script_verbs.specs.Words.{word_of}
 
@@ -101,12 +101,12 @@ declared_declares names (first ∷ args) entry e = by (word_of first) refl e whe
   by (Some (word.Say v)) h f = absurd cc
   by (Some (word.Declare k)) h f =
       let last = λ (name : List ℕ) (o : Object). given (name, o) in
-      let second = λ (name : List ℕ). object_at (next names) k args >>= last name in
+      let second = λ (name : List ℕ). object_at (next_location names) k args >>= last name in
       let a = bind_ok (counted (fields k) args) (λ all. new_name names (word_at args 0) >>= second) entry f in
       let b = bind_ok (new_name names (word_at args 0)) second entry a.2 in
-      let d = bind_ok (object_at (next names) k args) (last b.0) entry b.2 in
+      let d = bind_ok (object_at (next_location names) k args) (last b.0) entry b.2 in
       let new = new_is names (word_at args 0) b.0 b.1 in
-      let row = object_row names (next names) args b.0 d.0 k d.1 in
+      let row = object_row names (next_location names) args b.0 d.0 k d.1 in
       let line = row_respells names args b.0 k first (declaring b.0 d.0) row (word_has first (word.Declare k) h) new.0 (counted_length (fields k) args a.0 a.1) in
       subst (Declares names (first ∷ args)) (ok_is (b.0, d.0) entry d.2) (line, new.1, new.2, subst (λ (x : List ℕ × Object). IsPlaced names x.1) (sym (ok_is (b.0, d.0) entry d.2)) (declared_placed names (first ∷ args) entry e))
 
@@ -160,7 +160,7 @@ module _ (names : Names) (args : List (List ℕ)) (at : ℕ) where
   acc_back a p n = rw (positive_back 32 (word_at args 1) a.cells p.2.0 p.2.1 n) (few_is _ _ _ _ p.2.0 ∙ few_is _ _ _ _ p.1 ∙ ap (λ t. given (object.Acc t)) (acc_is a at a.cells p.2.0 p.1 p.0 refl))
 
 module _ (names : Names) (line : List (List ℕ)) (name : List ℕ) (good : is_name name ≡ true) (new : object_of names name ≡ None) where
-  back : (k : Kind) (rest : List Part) (o : Object) → Respells names (Part.text (kind_text k) ∷ Part.text name ∷ rest) line → suc (length rest) ≡ fields k → ((args : List (List ℕ)) → At names args 1 rest → object_at (next names) k args ≡ Ok o) → declared names line ≡ Ok (name, o)
+  back : (k : Kind) (rest : List Part) (o : Object) → Respells names (Part.text (kind_text k) ∷ Part.text name ∷ rest) line → suc (length rest) ≡ fields k → ((args : List (List ℕ)) → At names args 1 rest → object_at (next_location names) k args ≡ Ok o) → declared names line ≡ Ok (name, o)
   unfolding declare new_name
   back k rest o h count make = by line h where
     by : (line : List (List ℕ)) → Respells names (Part.text (kind_text k) ∷ Part.text name ∷ rest) line → declared names line ≡ Ok (name, o)
@@ -170,16 +170,16 @@ module _ (names : Names) (line : List (List ℕ)) (name : List ℕ) (good : is_n
         let word : word_of first ≡ Some (word.Declare k) = ap word_of h.0 ∙ kind_read k in
         rw (word, counted_back (fields k) args (r.0 ∙ count), r.1.0, good, new, make args r.1.1) refl
 
-  object_declared : (o : Object) → Respells names (declaring name o) line → IsAt (next names) o → declared names line ≡ Ok (name, o)
-  object_declared (object.Loc x opens) h p = back kind.Loc (Part.numeral opens ∷ []) _ h refl (λ args r. loc_back names args (next names) x opens p r.0)
-  object_declared (object.Stack s) h p = back kind.Stack (Part.numeral s.cap ∷ []) _ h refl (λ args r. stack_back names args (next names) s p r.0)
-  object_declared (object.Queue q) h p = back kind.Queue (Part.numeral q.cap ∷ []) _ h refl (λ args r. queue_back names args (next names) q p r.0)
-  object_declared (object.Mvar x) h p = back kind.Mvar [] _ h refl (λ args r. mvar_back names args (next names) x p)
-  object_declared (object.Promise x) h p = back kind.Promise [] _ h refl (λ args r. promise_back names args (next names) x p)
-  object_declared (object.Acc a) h p = back kind.Acc (Part.numeral a.cells ∷ []) _ h refl (λ args r. acc_back names args (next names) a p r.0)
-  object_declared (object.Hash x) h p = back kind.Table (Part.numeral x.buckets ∷ Part.numeral x.cap ∷ []) _ h refl (λ args r. table_back names args (next names) x p r.0 r.1.0)
-  object_declared (object.Grow g) h p = back kind.Grow (Part.numeral g.cap ∷ []) _ h refl (λ args r. grow_back names args (next names) g p r.0)
-  object_declared (object.Cache c) h p = back kind.Cache (Part.numeral c.buckets ∷ Part.numeral c.cap ∷ []) _ h refl (λ args r. cache_back names args (next names) c p r.0 r.1.0)
+  object_declared : (o : Object) → Respells names (declaring name o) line → IsAt (next_location names) o → declared names line ≡ Ok (name, o)
+  object_declared (object.Loc x opens) h p = back kind.Loc (Part.numeral opens ∷ []) _ h refl (λ args r. loc_back names args (next_location names) x opens p r.0)
+  object_declared (object.Stack s) h p = back kind.Stack (Part.numeral s.cap ∷ []) _ h refl (λ args r. stack_back names args (next_location names) s p r.0)
+  object_declared (object.Queue q) h p = back kind.Queue (Part.numeral q.cap ∷ []) _ h refl (λ args r. queue_back names args (next_location names) q p r.0)
+  object_declared (object.Mvar x) h p = back kind.Mvar [] _ h refl (λ args r. mvar_back names args (next_location names) x p)
+  object_declared (object.Promise x) h p = back kind.Promise [] _ h refl (λ args r. promise_back names args (next_location names) x p)
+  object_declared (object.Acc a) h p = back kind.Acc (Part.numeral a.cells ∷ []) _ h refl (λ args r. acc_back names args (next_location names) a p r.0)
+  object_declared (object.Hash x) h p = back kind.Table (Part.numeral x.buckets ∷ Part.numeral x.cap ∷ []) _ h refl (λ args r. table_back names args (next_location names) x p r.0 r.1.0)
+  object_declared (object.Grow g) h p = back kind.Grow (Part.numeral g.cap ∷ []) _ h refl (λ args r. grow_back names args (next_location names) g p r.0)
+  object_declared (object.Cache c) h p = back kind.Cache (Part.numeral c.buckets ∷ Part.numeral c.cap ∷ []) _ h refl (λ args r. cache_back names args (next_location names) c p r.0 r.1.0)
 
 pub declares_declared : (names : Names) (line : List (List ℕ)) (entry : List ℕ × Object) → Declares names line entry → declared names line ≡ Ok entry
 declares_declared names line entry d = object_declared names line entry.0 d.1 d.2 entry.1 d.0 d.3

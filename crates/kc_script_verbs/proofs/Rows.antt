@@ -74,11 +74,11 @@ use Rattle.kc_script_verbs.specs.declared.word.Word.TheVariants as word
 use Rattle.kc_script_bundle.specs.On.{CancelIsOn, IsOn}
 use Rattle.kc_script_verbs.proofs.Said.{said_on, stack_is, queue_is, table_object, table_is, cache_is, mvar_is, promise_is, acc_is}
 use Rattle.kc_script_verbs.proofs.Texts.{object_verb_text, verb_text, word_has, verb_read}
-use Rattle.kc_script_verbs.specs.Canonical.{Part, fun_words, rel_word, loc_words, stack_words, queue_words, table_words, hash_act, cache_words, mvar_words, promise_words, acc_words, cancel_words, words_of, IsNamed, IsNumeral, Stands, Respells, AddsIn, IsByThread, Says}
+use Rattle.kc_script_verbs.specs.Canonical.{Part, fun_words, rel_word, loc_words, stack_words, queue_words, table_words, hash_act, cache_words, mvar_words, promise_words, acc_words, cancel_words, words_of, IsNamed, IsNumeral, WordStands, Respells, AddsIn, IsByThread, Says}
 use Rattle.kc_script_verbs.specs.declared.objects.Table.{Table}
 use Rattle.kc_script_verbs.specs.declared.objects.Table.TheVariants as tables
 use Rattle.kc_script_verbs.specs.Objects.{object_of, used, as_loc, as_stack, as_queue, as_table, as_cache, as_mvar, as_promise, as_acc}
-use Rattle.kc_script_verbs.specs.Saying.{object_arity, arity, value_at, fun_named, fun_of, fun_at, rel_named, loc_named, loc_op, stack_act, queue_act, table_act, grow_act, table_op, cache_act, mvar_act, promise_act, acc_act, length_of, op_on, op_of, say, said_by, said}
+use Rattle.kc_script_verbs.specs.Saying.{object_arity, arity, value_said_at, fun_named, fun_of, fun_at, rel_named, loc_named, loc_op, stack_act, queue_act, table_act, grow_act, table_op, cache_act, mvar_act, promise_act, acc_act, length_of, op_on, op_of, say, said_by, said}
 use Rattle.kc_script_verbs.specs.Words.{word_of}
 use Rattle.kc_script_verbs.specs.declared.saying.TheConstants.{LIVE}
 
@@ -87,7 +87,7 @@ use Rattle.kc_script_verbs.specs.declared.saying.TheConstants.{LIVE}
 -- the parts stand at the places from this one on
 abbrev pub At : Names → List (List ℕ) → ℕ → List Part → Type 0
 At names args i [] = Unit {0}
-At names args i (part ∷ parts) = Stands names part (word_at args i) × At names args (suc i) parts
+At names args i (part ∷ parts) = WordStands names part (word_at args i) × At names args (suc i) parts
 
 later_at : (names : Names) (first : List ℕ) (args : List (List ℕ)) (i : ℕ) (parts : List Part) → At names (first ∷ args) (suc i) parts → At names args i parts
 later_at names first args i [] h = tt
@@ -136,12 +136,12 @@ pub positive_back : (most : ℕ) (word : List ℕ) (n : ℕ) → 1 ≤ n → n �
 unfolding positive_to
 positive_back most word n some le h = rw (number_back most word n le h, le-leb 1 n some) refl
 
-value_is : (args : List (List ℕ)) (i n : ℕ) → value_at args i ≡ Ok n → IsNumeral n (word_at args i)
-unfolding value_at
+value_is : (args : List (List ℕ)) (i n : ℕ) → value_said_at args i ≡ Ok n → IsNumeral n (word_at args i)
+unfolding value_said_at
 value_is args i n e = number_is 4294967295 (word_at args i) n (omega arith) e
 
-value_back : (args : List (List ℕ)) (i n : ℕ) → IsNumeral n (word_at args i) → value_at args i ≡ Ok n
-unfolding value_at
+value_back : (args : List (List ℕ)) (i n : ℕ) → IsNumeral n (word_at args i) → value_said_at args i ≡ Ok n
+unfolding value_said_at
 value_back args i n h = number_back 4294967295 (word_at args i) n h.2 h
 
 used_is : (names : Names) (word : List ℕ) (o : Object) → used names word ≡ Ok o → IsNamed names word o
@@ -156,7 +156,7 @@ unfolding used
 used_back names word o h = rw (h.0, h.1) refl
 
 -- a name of an object that is a location
-place_is : (names : Names) (word : List ℕ) (o : Object) (x : Loc) → as_loc o ≡ Ok x → IsNamed names word o → Stands names (Part.place_name x) word
+place_is : (names : Names) (word : List ℕ) (o : Object) (x : Loc) → as_loc o ≡ Ok x → IsNamed names word o → WordStands names (Part.place_name x) word
 place_is names word (object.Loc at opens) x e h = (opens, subst (λ l. IsNamed names word (object.Loc l opens)) (ok_is _ _ e) h)
 place_is names word (object.Stack a) x e h = absurd cc
 place_is names word (object.Queue a) x e h = absurd cc
@@ -167,13 +167,13 @@ place_is names word (object.Hash a) x e h = absurd cc
 place_is names word (object.Grow a) x e h = absurd cc
 place_is names word (object.Cache a) x e h = absurd cc
 
-loc_named_is : (names : Names) (word : List ℕ) (x : Loc) → loc_named names word ≡ Ok x → Stands names (Part.place_name x) word
+loc_named_is : (names : Names) (word : List ℕ) (x : Loc) → loc_named names word ≡ Ok x → WordStands names (Part.place_name x) word
 unfolding loc_named
 loc_named_is names word x e =
     let a = bind_ok (used names word) as_loc x e in
     place_is names word a.0 x a.2 (used_is names word a.0 a.1)
 
-loc_named_back : (names : Names) (word : List ℕ) (x : Loc) → Stands names (Part.place_name x) word → loc_named names word ≡ Ok x
+loc_named_back : (names : Names) (word : List ℕ) (x : Loc) → WordStands names (Part.place_name x) word → loc_named names word ≡ Ok x
 unfolding loc_named
 loc_named_back names word x h = rw (used_back names word (object.Loc x h.0) h.1) refl
 
@@ -236,8 +236,8 @@ fun_is : (names : Names) (args : List (List ℕ)) (f : Fun) → fun_at args ≡ 
 unfolding fun_at
 fun_is names args f e =
     let last = λ (name : FunWord) (n : ℕ). given (fun_of name n) in
-    let a = bind_ok (fun_named (word_at args 1)) (λ name. value_at args 2 >>= last name) f e in
-    let b = bind_ok (value_at args 2) (last a.0) f a.2 in
+    let a = bind_ok (fun_named (word_at args 1)) (λ name. value_said_at args 2 >>= last name) f e in
+    let b = bind_ok (value_said_at args 2) (last a.0) f a.2 in
     subst (λ (g : Fun). At names args 1 (fun_words g) × (length (fun_words g) ≡ 2)) (ok_is _ _ b.2) (rw (fun_row a.0 b.0) ((fun_has (word_at args 1) a.0 a.1, (value_is args 2 b.0 b.1, tt)), refl))
 
 fun_length : (f : Fun) → length (fun_words f) ≡ 2
@@ -263,7 +263,7 @@ fun_back names args f h =
     let name = fun_name f in
     let parts : At names args 1 (Part.text (fun_text name.0) ∷ Part.numeral name.1 ∷ []) = subst (At names args 1) (ap fun_words (sym name.2) ∙ fun_row name.0 name.1) h in
     let word : fun_named (word_at args 1) ≡ Ok name.0 = ap fun_named parts.0 ∙ fun_read name.0 in
-    let n : value_at args 2 ≡ Ok name.1 = value_back args 2 name.1 parts.1.0 in
+    let n : value_said_at args 2 ≡ Ok name.1 = value_back args 2 name.1 parts.1.0 in
     rw (word, n, name.2) refl
 
 -- ---- what is read is said
@@ -273,14 +273,14 @@ abbrev Row : Names → List (List ℕ) → ObjectVerb → Part → List Part →
 Row names args v on (Part.text t ∷ name ∷ rest) = (object_verb_text v ≡ t) × (name ≡ on) × At names args 1 rest × (suc (length rest) ≡ object_arity v)
 Row names args v on _ = ⊥
 
-row_respells : (names : Names) (v : ObjectVerb) (on : Part) (first : List ℕ) (args : List (List ℕ)) (parts : List Part) → Row names args v on parts → first ≡ object_verb_text v → Stands names on (word_at args 0) → length args ≡ object_arity v → Respells names parts (first ∷ args)
+row_respells : (names : Names) (v : ObjectVerb) (on : Part) (first : List ℕ) (args : List (List ℕ)) (parts : List Part) → Row names args v on parts → first ≡ object_verb_text v → WordStands names on (word_at args 0) → length args ≡ object_arity v → Respells names parts (first ∷ args)
 row_respells names v on first args [] row e h count = absurd row
 row_respells names v on first args (Part.text t ∷ []) row e h count = absurd row
 row_respells names v on first args (Part.object_name o ∷ parts) row e h count = absurd row
 row_respells names v on first args (Part.place_name x ∷ parts) row e h count = absurd row
 row_respells names v on first args (Part.numeral n ∷ parts) row e h count = absurd row
 row_respells names v on first args (Part.text t ∷ name ∷ rest) row e h count =
-    (e ∙ row.0, at_respells names (name ∷ rest) args (omega (arith, count, row.3)) (subst (λ (p : Part). Stands names p (word_at args 0)) (sym row.1) h, row.2))
+    (e ∙ row.0, at_respells names (name ∷ rest) args (omega (arith, count, row.3)) (subst (λ (p : Part). WordStands names p (word_at args 0)) (sym row.1) h, row.2))
 
 -- what is done to a table of one kind is what is done to one of the other
 hash_of_grow : (a : HashAct) → hash_act (grow_act a) ≡ a
@@ -300,15 +300,15 @@ module _ {A : Type 0} (args : List (List ℕ)) (P : A → Type 0) (a : A) where
   of_none : (made : A) → given made ≡ Ok a → P made → P a
   of_none made e p = subst P (ok_is _ _ e) p
 
-  of_one : (make : ℕ → A) → (value_at args 1 >>= λ v. given (make v)) ≡ Ok a → ((v : ℕ) → IsNumeral v (word_at args 1) → P (make v)) → P a
+  of_one : (make : ℕ → A) → (value_said_at args 1 >>= λ v. given (make v)) ≡ Ok a → ((v : ℕ) → IsNumeral v (word_at args 1) → P (make v)) → P a
   of_one make e p =
-      let x = bind_ok (value_at args 1) (λ v. given (make v)) a e in
+      let x = bind_ok (value_said_at args 1) (λ v. given (make v)) a e in
       subst P (ok_is _ _ x.2) (p x.0 (value_is args 1 x.0 x.1))
 
-  of_two : (make : ℕ → ℕ → A) → (value_at args 1 >>= λ v. value_at args 2 >>= λ w. given (make v w)) ≡ Ok a → ((v w : ℕ) → IsNumeral v (word_at args 1) → IsNumeral w (word_at args 2) → P (make v w)) → P a
+  of_two : (make : ℕ → ℕ → A) → (value_said_at args 1 >>= λ v. value_said_at args 2 >>= λ w. given (make v w)) ≡ Ok a → ((v w : ℕ) → IsNumeral v (word_at args 1) → IsNumeral w (word_at args 2) → P (make v w)) → P a
   of_two make e p =
-      let x = bind_ok (value_at args 1) (λ v. value_at args 2 >>= λ w. given (make v w)) a e in
-      let y = bind_ok (value_at args 2) (λ w. given (make x.0 w)) a x.2 in
+      let x = bind_ok (value_said_at args 1) (λ v. value_said_at args 2 >>= λ w. given (make v w)) a e in
+      let y = bind_ok (value_said_at args 2) (λ w. given (make x.0 w)) a x.2 in
       subst P (ok_is _ _ y.2) (p x.0 y.0 (value_is args 1 x.0 x.1) (value_is args 2 y.0 y.1))
 
 module _ (names : Names) (args : List (List ℕ)) where
@@ -337,8 +337,8 @@ module _ (names : Names) (args : List (List ℕ)) where
       subst (LocRow loc_verb.Modify x) (ok_is _ _ f.2) (refl, refl, is.0, ap suc is.1)
   loc_row loc_verb.Check x o e =
       let last = λ (r : Rel) (v : ℕ). given (loc.Check x r v) in
-      let r = bind_ok (rel_named (word_at args 1)) (λ r. value_at args 2 >>= last r) o e in
-      let v = bind_ok (value_at args 2) (last r.0) o r.2 in
+      let r = bind_ok (rel_named (word_at args 1)) (λ r. value_said_at args 2 >>= last r) o e in
+      let v = bind_ok (value_said_at args 2) (last r.0) o r.2 in
       subst (LocRow loc_verb.Check x) (ok_is _ _ v.2) (refl, refl, (rel_has (word_at args 1) r.0 r.1, (value_is args 2 v.0 v.1, tt)), refl)
 
   abbrev StackRow : StackWord → Stack → StackAct → Type 0
@@ -414,7 +414,7 @@ module _ (names : Names) (args : List (List ℕ)) where
   record Said (thread : ℕ) (v : ObjectVerb) (o : Op) : Type 0 where
     on : Part
     row : Row names args v on (words_of o)
-    named : Stands names on (word_at args 0)
+    named : WordStands names on (word_at args 0)
     by : IsByThread thread o
 
   length_said : (thread : ℕ) (x : Object) (o : Op) → length_of x ≡ Ok o → IsNamed names (word_at args 0) x → Said thread object_verb.Len o
@@ -494,7 +494,7 @@ module _ (thread : ℕ) (names : Names) (line : List (List ℕ)) where
   abbrev Line : ObjectVerb → Part → List Part → Type 0
   Line v on rest = Respells names (Part.text (object_verb_text v) ∷ on ∷ rest) line
 
-  back_on : (v : ObjectVerb) (on : Part) (rest : List Part) (o : Op) → Line v on rest → suc (length rest) ≡ object_arity v → ((args : List (List ℕ)) → Stands names on (word_at args 0) → At names args 1 rest → (used names (word_at args 0) >>= λ x. op_on thread names v x args) ≡ Ok o) → said thread names line ≡ Ok o
+  back_on : (v : ObjectVerb) (on : Part) (rest : List Part) (o : Op) → Line v on rest → suc (length rest) ≡ object_arity v → ((args : List (List ℕ)) → WordStands names on (word_at args 0) → At names args 1 rest → (used names (word_at args 0) >>= λ x. op_on thread names v x args) ≡ Ok o) → said thread names line ≡ Ok o
   unfolding say
   back_on v on rest o h count act = by line h where
     by : (line : List (List ℕ)) → Respells names (Part.text (object_verb_text v) ∷ on ∷ rest) line → said thread names line ≡ Ok o

@@ -42,7 +42,7 @@ use Rattle.kc_script_verbs.specs.declared.word.Word.TheVariants as word
 use Rattle.kc_script_verbs.specs.declared.objects.Table.{Table}
 use Rattle.kc_script_verbs.specs.declared.objects.Table.TheVariants as tables
 use Rattle.kc_script_verbs.specs.Objects.{object_of, used, as_loc, as_stack, as_queue, as_table, as_cache, as_mvar, as_promise, as_acc}
-use Rattle.kc_script_verbs.specs.Saying.{arity, value_at, fun_at, rel_named, loc_named, loc_op, stack_act, queue_act, table_act, cache_act, mvar_act, promise_act, acc_act, table_op, length_of, op_on, cancel_of, op_of, say, said_by, said}
+use Rattle.kc_script_verbs.specs.Saying.{arity, value_said_at, fun_at, rel_named, loc_named, loc_op, stack_act, queue_act, table_act, cache_act, mvar_act, promise_act, acc_act, table_op, length_of, op_on, cancel_of, op_of, say, said_by, said}
 use Rattle.kc_script_verbs.specs.Words.{word_of}
 use Rattle.kc_script_verbs.specs.declared.saying.TheConstants.{LIVE}
 
@@ -181,16 +181,16 @@ two_on names part other made x e on =
 loc_op_on : (names : Names) (w : LocWord) (at : Loc) (args : List (List ℕ)) (x : LocOp) → loc_op names w at args ≡ Ok x → IsLocation names at → LocIsOn names x
 unfolding loc_op
 loc_op_on names verb_on.Get at args x e h = subst (LocIsOn names) (ok_is _ _ e) h
-loc_op_on names verb_on.Set at args x e h = one_on names (value_at args 1) (λ a. loc.Set at a) x e (λ a f. h)
-loc_op_on names verb_on.Exchange at args x e h = one_on names (value_at args 1) (λ a. loc.Exchange at a) x e (λ a f. h)
+loc_op_on names verb_on.Set at args x e h = one_on names (value_said_at args 1) (λ a. loc.Set at a) x e (λ a f. h)
+loc_op_on names verb_on.Exchange at args x e h = one_on names (value_said_at args 1) (λ a. loc.Exchange at a) x e (λ a f. h)
 loc_op_on names verb_on.Swap at args x e h = one_on names (loc_named names (word_at args 1)) (λ b. loc.Swap at b) x e (λ b f. (h, named_location names (word_at args 1) b f))
-loc_op_on names verb_on.Cas at args x e h = two_on names (value_at args 1) (value_at args 2) (λ (v w : ℕ). loc.Cas at v w) x e (λ v w. h)
-loc_op_on names verb_on.FetchAdd at args x e h = one_on names (value_at args 1) (λ a. loc.FetchAdd at a) x e (λ a f. h)
+loc_op_on names verb_on.Cas at args x e h = two_on names (value_said_at args 1) (value_said_at args 2) (λ (v w : ℕ). loc.Cas at v w) x e (λ v w. h)
+loc_op_on names verb_on.FetchAdd at args x e h = one_on names (value_said_at args 1) (λ a. loc.FetchAdd at a) x e (λ a f. h)
 loc_op_on names verb_on.Incr at args x e h = subst (LocIsOn names) (ok_is _ _ e) h
 loc_op_on names verb_on.Decr at args x e h = subst (LocIsOn names) (ok_is _ _ e) h
 loc_op_on names verb_on.Update at args x e h = one_on names (fun_at args) (λ a. loc.Update at a) x e (λ a f. h)
 loc_op_on names verb_on.Modify at args x e h = one_on names (fun_at args) (λ a. loc.Modify at a) x e (λ a f. h)
-loc_op_on names verb_on.Check at args x e h = two_on names (rel_named (word_at args 1)) (value_at args 2) (λ (v : Rel) (w : ℕ). loc.Check at v w) x e (λ v w. h)
+loc_op_on names verb_on.Check at args x e h = two_on names (rel_named (word_at args 1)) (value_said_at args 2) (λ (v : Rel) (w : ℕ). loc.Check at v w) x e (λ v w. h)
 
 -- ---- commands on an object of a kind
 

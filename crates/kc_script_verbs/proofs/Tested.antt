@@ -37,10 +37,10 @@ use Rattle.kc_script_verbs.specs.declared.verb.Verb.{Verb}
 use Rattle.kc_script_verbs.specs.declared.verb.Verb.TheVariants as verb
 use Rattle.kc_script_verbs.specs.declared.word.Kind.{Kind}
 use Rattle.kc_script_verbs.specs.declared.word.Kind.TheVariants as kind
-use Rattle.kc_script_verbs.specs.Declaring.{fields, tested, at_most, laid, loc_at, stack_at, queue_at, table_at, grow_at, cache_at, mvar_at, promise_at, acc_at, object_at, next, declare}
-use Rattle.kc_script_verbs.specs.Fields.{Field, kind_fields, number_at, size_of, is_loc, is_stack, is_queue, is_table, is_cache, is_mvar, is_promise, is_acc, has_length, loc_fields, stack_fields, queue_fields, table_fields, cache_fields, mvar_fields, promise_fields, acc_fields, object_fields, verb_fields, Kinds, object_kind, kinds_of, kind_named, is_such, is_among, functions, relations, field_tests, word_tests, args_tests}
+use Rattle.kc_script_verbs.specs.Declaring.{fields, tested, at_most, laid, loc_at, stack_at, queue_at, table_at, grow_at, cache_at, mvar_at, promise_at, acc_at, object_at, next_location, declare}
+use Rattle.kc_script_verbs.specs.Fields.{Field, kind_fields, number_at, declared_size, is_loc, is_stack, is_queue, is_table, is_cache, is_mvar, is_promise, is_acc, has_length, loc_fields, stack_fields, queue_fields, table_fields, cache_fields, mvar_fields, promise_fields, acc_fields, object_fields, verb_fields, Kinds, object_kind, kinds_of, kind_named, is_such, is_among, functions, relations, field_tests, word_tests, args_tests}
 use Rattle.kc_script_verbs.specs.Objects.{object_of, new_name, used, as_loc, as_stack, as_queue, as_table, as_cache, as_mvar, as_promise, as_acc}
-use Rattle.kc_script_verbs.specs.Saying.{arity, value_at, fun_named, fun_at, rel_named, loc_named, loc_op, stack_act, queue_act, table_act, cache_act, mvar_act, promise_act, acc_act, length_of, op_on, op_of, say}
+use Rattle.kc_script_verbs.specs.Saying.{arity, value_said_at, fun_named, fun_at, rel_named, loc_named, loc_op, stack_act, queue_act, table_act, cache_act, mvar_act, promise_act, acc_act, length_of, op_on, op_of, say}
 
 -- ---- words by their places
 
@@ -92,8 +92,8 @@ used_fault {A} names has name f rest more = record { same = rw (kind_is names na
 
 -- ---- numbers, functions, relations
 
-value_fault : (args : List (List ℕ)) (i : ℕ) → Tested (value_at args i) ((is_number 0 4294967295 (word_at args i), BadNumber) ∷ [])
-unfolding value_at
+value_fault : (args : List (List ℕ)) (i : ℕ) → Tested (value_said_at args i) ((is_number 0 4294967295 (word_at args i), BadNumber) ∷ [])
+unfolding value_said_at
 value_fault args i = number_fault 4294967295 (word_at args i)
 
 -- one of six words
@@ -219,16 +219,16 @@ length_kind (object.Cache c) = record { same = refl }
 
 module _ {A : Type 0} (args : List (List ℕ)) where
   -- one number
-  one_value : (make : ℕ → A) → Tested (value_at args 1 >>= λ v. Ok (make v)) ((is_number 0 4294967295 (word_at args 1), BadNumber) ∷ [])
-  one_value make = made_fault (value_at args 1) make _ (value_fault args 1)
+  one_value : (make : ℕ → A) → Tested (value_said_at args 1 >>= λ v. Ok (make v)) ((is_number 0 4294967295 (word_at args 1), BadNumber) ∷ [])
+  one_value make = made_fault (value_said_at args 1) make _ (value_fault args 1)
 
   -- two numbers
-  two_values : (make : ℕ → ℕ → A) → Tested (value_at args 1 >>= λ v. value_at args 2 >>= λ w. Ok (make v w)) ((is_number 0 4294967295 (word_at args 1), BadNumber) ∷ (is_number 0 4294967295 (word_at args 2), BadNumber) ∷ [])
-  two_values make = then_fault (value_at args 1) (λ v. value_at args 2 >>= λ w. Ok (make v w)) _ ((is_number 0 4294967295 (word_at args 2), BadNumber) ∷ []) (value_fault args 1) (λ v e. made_fault (value_at args 2) (make v) _ (value_fault args 2))
+  two_values : (make : ℕ → ℕ → A) → Tested (value_said_at args 1 >>= λ v. value_said_at args 2 >>= λ w. Ok (make v w)) ((is_number 0 4294967295 (word_at args 1), BadNumber) ∷ (is_number 0 4294967295 (word_at args 2), BadNumber) ∷ [])
+  two_values make = then_fault (value_said_at args 1) (λ v. value_said_at args 2 >>= λ w. Ok (make v w)) _ ((is_number 0 4294967295 (word_at args 2), BadNumber) ∷ []) (value_fault args 1) (λ v e. made_fault (value_said_at args 2) (make v) _ (value_fault args 2))
 
 fun_at_fault : (args : List (List ℕ)) → Tested (fun_at args) ((is_among (word_at args 1) functions, UnknownWord) ∷ (is_number 0 4294967295 (word_at args 2), BadNumber) ∷ [])
 unfolding fun_at
-fun_at_fault args = then_fault (fun_named (word_at args 1)) _ _ ((is_number 0 4294967295 (word_at args 2), BadNumber) ∷ []) (fun_fault (word_at args 1)) (λ f e. made_fault (value_at args 2) _ _ (value_fault args 2))
+fun_at_fault args = then_fault (fun_named (word_at args 1)) _ _ ((is_number 0 4294967295 (word_at args 2), BadNumber) ∷ []) (fun_fault (word_at args 1)) (λ f e. made_fault (value_said_at args 2) _ _ (value_fault args 2))
 
 module _ (names : Names) (args : List (List ℕ)) where
   loc_fault : (w : LocWord) (at : Loc) → Tested (loc_op names w at args) (tests_from (kinds_of names) args 1 (loc_fields w))
@@ -243,7 +243,7 @@ module _ (names : Names) (args : List (List ℕ)) where
   loc_fault loc_verb.Decr at = record { same = refl }
   loc_fault loc_verb.Update at = made_fault (fun_at args) _ _ (fun_at_fault args)
   loc_fault loc_verb.Modify at = made_fault (fun_at args) _ _ (fun_at_fault args)
-  loc_fault loc_verb.Check at = then_fault (rel_named (word_at args 1)) _ _ ((is_number 0 4294967295 (word_at args 2), BadNumber) ∷ []) (rel_fault (word_at args 1)) (λ r e. made_fault (value_at args 2) _ _ (value_fault args 2))
+  loc_fault loc_verb.Check at = then_fault (rel_named (word_at args 1)) _ _ ((is_number 0 4294967295 (word_at args 2), BadNumber) ∷ []) (rel_fault (word_at args 1)) (λ r e. made_fault (value_said_at args 2) _ _ (value_fault args 2))
 
   stack_fault : (w : StackWord) → Tested (stack_act w args) (tests_from (kinds_of names) args 1 (stack_fields w))
   unfolding stack_act
@@ -336,7 +336,7 @@ then_sized : {A : Type 0} (most : ℕ) (w : List ℕ) (f : ℕ → Result A Why)
 then_sized most w f rest more = then_fault (positive_to most w) f _ rest (positive_fault most w) (λ n e. let v = positive_value most w n e in more n v.0 v.1)
 
 module _ (at : ℕ) (args : List (List ℕ)) where
-  object_fault : (names : Kinds) (k : Kind) → Tested (object_at at k args) (tests_from names args 1 (drop 1 (kind_fields k)) ++ (leb (at + size_of k args) 65536, TooMany Locations) ∷ [])
+  object_fault : (names : Kinds) (k : Kind) → Tested (object_at at k args) (tests_from names args 1 (drop 1 (kind_fields k)) ++ (leb (at + declared_size k args) 65536, TooMany Locations) ∷ [])
   unfolding object_at loc_at stack_at queue_at table_at grow_at cache_at mvar_at promise_at acc_at
   object_fault names kind.Loc = then_fault (number_to 4294967295 (word_at args 1)) (loc_at at) _ _ (number_fault 4294967295 (word_at args 1)) (λ n e. laid_fault _ _ _ refl)
   object_fault names kind.Stack = then_sized 4096 (word_at args 1) (stack_at at) _ (λ n v some. laid_fault _ _ _ (omega (arith, v)))
@@ -360,18 +360,18 @@ first_new names args kind.Mvar = refl
 first_new names args kind.Promise = refl
 first_new names args kind.Acc = refl
 
-pub declare_fault : (names : Names) (k : Kind) (args : List (List ℕ)) → Tested (declare names k args) (args_tests (kinds_of names) (kind_fields k) args ++ (leb (next names + size_of k args) 65536, TooMany Locations) ∷ [])
+pub declare_fault : (names : Names) (k : Kind) (args : List (List ℕ)) → Tested (declare names k args) (args_tests (kinds_of names) (kind_fields k) args ++ (leb (next_location names + declared_size k args) 65536, TooMany Locations) ∷ [])
 unfolding declare
 declare_fault names k args =
-    let limit : List (Bool × Why) = (leb (next names + size_of k args) 65536, TooMany Locations) ∷ [] in
+    let limit : List (Bool × Why) = (leb (next_location names + declared_size k args) 65536, TooMany Locations) ∷ [] in
     let named = field_tests (kinds_of names) Field.new (word_at args 0) in
     let later = tests_from (kinds_of names) args 1 (drop 1 (kind_fields k)) in
-    let behind = λ (name : List ℕ). object_at (next names) k args >>= λ o. given (name, o) in
+    let behind = λ (name : List ℕ). object_at (next_location names) k args >>= λ o. given (name, o) in
     let words = λ (e : length args ≡ length (kind_fields k)). sym (placed_tests (kinds_of names) (kind_fields k) args e) ∙ first_new (kinds_of names) args k in
     subst (Tested (declare names k args)) (sym (append_assoc (count_tests (length (kind_fields k)) args) (word_tests (kinds_of names) (kind_fields k) args) limit))
     (then_fault (counted (fields k) args) (λ all. new_name names (word_at args 0) >>= behind) (count_tests (length (kind_fields k)) args) (word_tests (kinds_of names) (kind_fields k) args ++ limit) (counted_fault (fields k) args)
     (λ all e. subst (λ tests. Tested (new_name names (word_at args 0) >>= behind) (tests ++ limit)) (sym (words (counted_length (fields k) args all e)))
-    (then_fault (new_name names (word_at args 0)) behind named (later ++ limit) (new_fault names (word_at args 0)) (λ name new. made_fault (object_at (next names) k args) (λ o. (name, o)) (later ++ limit) (object_fault (next names) args (kinds_of names) k)))))
+    (then_fault (new_name names (word_at args 0)) behind named (later ++ limit) (new_fault names (word_at args 0)) (λ name new. made_fault (object_at (next_location names) k args) (λ o. (name, o)) (later ++ limit) (object_fault (next_location names) args (kinds_of names) k)))))
 
 -- ---- what was declared
 
@@ -398,7 +398,7 @@ module _ (at : ℕ) (args : List (List ℕ)) (o : Object) where
 
   -- the kind and the size of an object
   abbrev Is : Kind → Object → Type 0
-  Is k x = (object_kind x ≡ k) × (cells x ≡ size_of k args)
+  Is k x = (object_kind x ≡ k) × (cells x ≡ declared_size k args)
 
   object_is : (k : Kind) → object_at at k args ≡ Ok o → Is k o
   unfolding object_at loc_at stack_at queue_at table_at grow_at cache_at mvar_at promise_at acc_at
@@ -424,14 +424,14 @@ named_is names word name e =
     let b = bind_ok (wants (not (is_some (object_of names word))) RepeatedName) last name a.2 in
     sym (ok_is _ _ b.2)
 
-pub declare_is : (names : Names) (k : Kind) (args : List (List ℕ)) (entry : List ℕ × Object) → declare names k args ≡ Ok entry → (entry.0 ≡ word_at args 0) × (object_kind entry.1 ≡ k) × (cells entry.1 ≡ size_of k args)
+pub declare_is : (names : Names) (k : Kind) (args : List (List ℕ)) (entry : List ℕ × Object) → declare names k args ≡ Ok entry → (entry.0 ≡ word_at args 0) × (object_kind entry.1 ≡ k) × (cells entry.1 ≡ declared_size k args)
 unfolding declare
 declare_is names k args entry e =
     let last = λ (name : List ℕ) (o : Object). given (name, o) in
-    let behind = λ (name : List ℕ). object_at (next names) k args >>= last name in
+    let behind = λ (name : List ℕ). object_at (next_location names) k args >>= last name in
     let a = bind_ok (counted (fields k) args) (λ all. new_name names (word_at args 0) >>= behind) entry e in
     let b = bind_ok (new_name names (word_at args 0)) behind entry a.2 in
-    let d = bind_ok (object_at (next names) k args) (last b.0) entry b.2 in
+    let d = bind_ok (object_at (next_location names) k args) (last b.0) entry b.2 in
     let same : (b.0, d.0) ≡ entry = ok_is _ _ d.2 in
-    let is = object_is (next names) args d.0 k d.1 in
-    subst (λ (x : List ℕ × Object). (x.0 ≡ word_at args 0) × (object_kind x.1 ≡ k) × (cells x.1 ≡ size_of k args)) same (named_is names (word_at args 0) b.0 b.1, is.0, is.1)
+    let is = object_is (next_location names) args d.0 k d.1 in
+    subst (λ (x : List ℕ × Object). (x.0 ≡ word_at args 0) × (object_kind x.1 ≡ k) × (cells x.1 ≡ declared_size k args)) same (named_is names (word_at args 0) b.0 b.1, is.0, is.1)

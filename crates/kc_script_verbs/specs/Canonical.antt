@@ -169,16 +169,16 @@ IsNamed names word o = (is_name word ≡ true) × (object_of names word ≡ Some
 abbrev pub IsNumeral : ℕ → List ℕ → Type 0
 IsNumeral n word = (is_numeral word ≡ true) × (value_on 0 word ≡ n) × (n ≤ 4294967295)
 
-abbrev pub Stands : Names → Part → List ℕ → Type 0
-Stands names (Part.text w) word = word ≡ w
-Stands names (Part.object_name o) word = IsNamed names word o
-Stands names (Part.place_name x) word = (opens : ℕ) × IsNamed names word (object.Loc x opens)
-Stands names (Part.numeral n) word = IsNumeral n word
+abbrev pub WordStands : Names → Part → List ℕ → Type 0
+WordStands names (Part.text w) word = word ≡ w
+WordStands names (Part.object_name o) word = IsNamed names word o
+WordStands names (Part.place_name x) word = (opens : ℕ) × IsNamed names word (object.Loc x opens)
+WordStands names (Part.numeral n) word = IsNumeral n word
 
 -- the words are these, up to leading zeros of numbers
 abbrev pub Respells : Names → List Part → List (List ℕ) → Type 0
 Respells names [] [] = Unit {0}
-Respells names (part ∷ parts) (word ∷ line) = Stands names part word × Respells names parts line
+Respells names (part ∷ parts) (word ∷ line) = WordStands names part word × Respells names parts line
 Respells names _ _ = ⊥
 
 -- a thread adds to the cell of its number; threads are numbered from 0 here

@@ -83,15 +83,15 @@ abbrev pub IsAt : ℕ → Object → Type 0
 IsAt at o = (base o ≡ at) × (at + cells o ≤ MOST_LOCATIONS) × IsSized o
 
 -- the first location that no object has
-abbrev pub next : Names → ℕ
-next names = next_from 1 names
+abbrev pub next_location : Names → ℕ
+next_location names = next_from 1 names
 
 -- what a line declares behind these names
 unfoldable pub declare : Names → Kind → List (List ℕ) → Result (List ℕ × Object) Why
 declare names k args = do
   all ← counted (fields k) args
   name ← new_name names (word_at args 0)
-  o ← object_at (next names) k args
+  o ← object_at (next_location names) k args
   Ok (name, o)
 
 -- a word that begins a declaration
@@ -106,4 +106,4 @@ declared names (first ∷ args) = declared_by names (word_of first) args
 
 -- an object lies behind those before it, has room, and is sized
 abbrev pub IsPlaced : Names → Object → Type 0
-IsPlaced names o = IsAt (next names) o
+IsPlaced names o = IsAt (next_location names) o

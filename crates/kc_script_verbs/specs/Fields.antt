@@ -74,16 +74,16 @@ abbrev pub number_at : List (List ℕ) → ℕ → ℕ
 number_at args i = value_on 0 (word_at args i)
 
 -- how many cells is declared
-abbrev pub size_of : Kind → List (List ℕ) → ℕ
-size_of kind.Loc args = 1
-size_of kind.Stack args = 1 + number_at args 1
-size_of kind.Queue args = 2 + number_at args 1
-size_of kind.Table args = 2 + number_at args 1 + 3 * number_at args 2
-size_of kind.Grow args = 3 + 4 * number_at args 1
-size_of kind.Cache args = 6 + number_at args 1 + 7 * number_at args 2
-size_of kind.Mvar args = 2
-size_of kind.Promise args = 2
-size_of kind.Acc args = number_at args 1
+abbrev pub declared_size : Kind → List (List ℕ) → ℕ
+declared_size kind.Loc args = 1
+declared_size kind.Stack args = 1 + number_at args 1
+declared_size kind.Queue args = 2 + number_at args 1
+declared_size kind.Table args = 2 + number_at args 1 + 3 * number_at args 2
+declared_size kind.Grow args = 3 + 4 * number_at args 1
+declared_size kind.Cache args = 6 + number_at args 1 + 7 * number_at args 2
+declared_size kind.Mvar args = 2
+declared_size kind.Promise args = 2
+declared_size kind.Acc args = number_at args 1
 
 -- ---- commands
 

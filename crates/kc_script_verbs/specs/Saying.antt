@@ -100,8 +100,8 @@ arity v = length (verb_fields v)
 -- ---- numbers, functions and relations
 
 -- a number of 32 bits
-unfoldable pub value_at : List (List ℕ) → ℕ → Result ℕ Why
-value_at args i = number_to 4294967295 (word_at args i)
+unfoldable pub value_said_at : List (List ℕ) → ℕ → Result ℕ Why
+value_said_at args i = number_to 4294967295 (word_at args i)
 
 -- the function that a word names
 unfoldable pub fun_named : List ℕ → Result FunWord Why
@@ -127,7 +127,7 @@ fun_of named.Xor n = fun.Xor n
 unfoldable pub fun_at : List (List ℕ) → Result Fun Why
 fun_at args = do
   name ← fun_named (word_at args 1)
-  n ← value_at args 2
+  n ← value_said_at args 2
   Ok (fun_of name n)
 
 -- the relation that a word names
@@ -149,33 +149,33 @@ loc_named names name = used names name >>= as_loc
 
 unfoldable pub loc_op : Names → LocWord → Loc → List (List ℕ) → Result LocOp Why
 loc_op names loc_verb.Get at args = Ok (loc.Get at)
-loc_op names loc_verb.Set at args = value_at args 1 >>= λ v. Ok (loc.Set at v)
-loc_op names loc_verb.Exchange at args = value_at args 1 >>= λ v. Ok (loc.Exchange at v)
+loc_op names loc_verb.Set at args = value_said_at args 1 >>= λ v. Ok (loc.Set at v)
+loc_op names loc_verb.Exchange at args = value_said_at args 1 >>= λ v. Ok (loc.Exchange at v)
 loc_op names loc_verb.Swap at args = loc_named names (word_at args 1) >>= λ b. Ok (loc.Swap at b)
-loc_op names loc_verb.Cas at args = value_at args 1 >>= λ v. value_at args 2 >>= λ w. Ok (loc.Cas at v w)
-loc_op names loc_verb.FetchAdd at args = value_at args 1 >>= λ v. Ok (loc.FetchAdd at v)
+loc_op names loc_verb.Cas at args = value_said_at args 1 >>= λ v. value_said_at args 2 >>= λ w. Ok (loc.Cas at v w)
+loc_op names loc_verb.FetchAdd at args = value_said_at args 1 >>= λ v. Ok (loc.FetchAdd at v)
 loc_op names loc_verb.Incr at args = Ok (loc.Incr at)
 loc_op names loc_verb.Decr at args = Ok (loc.Decr at)
 loc_op names loc_verb.Update at args = fun_at args >>= λ f. Ok (loc.Update at f)
 loc_op names loc_verb.Modify at args = fun_at args >>= λ f. Ok (loc.Modify at f)
-loc_op names loc_verb.Check at args = rel_named (word_at args 1) >>= λ r. value_at args 2 >>= λ v. Ok (loc.Check at r v)
+loc_op names loc_verb.Check at args = rel_named (word_at args 1) >>= λ r. value_said_at args 2 >>= λ v. Ok (loc.Check at r v)
 
 unfoldable pub stack_act : StackWord → List (List ℕ) → Result StackAct Why
-stack_act stack_verb.Push args = value_at args 1 >>= λ v. Ok (stack.Push v)
+stack_act stack_verb.Push args = value_said_at args 1 >>= λ v. Ok (stack.Push v)
 stack_act stack_verb.Pop args = Ok stack.Pop
 stack_act stack_verb.PopWait args = Ok stack.PopWait
 stack_act stack_verb.Top args = Ok stack.Top
 
 unfoldable pub queue_act : QueueWord → List (List ℕ) → Result QueueAct Why
-queue_act queue_verb.Enq args = value_at args 1 >>= λ v. Ok (queue.Enq v)
+queue_act queue_verb.Enq args = value_said_at args 1 >>= λ v. Ok (queue.Enq v)
 queue_act queue_verb.Deq args = Ok queue.Deq
 queue_act queue_verb.DeqWait args = Ok queue.DeqWait
 queue_act queue_verb.Front args = Ok queue.Front
 
 unfoldable pub table_act : TableWord → List (List ℕ) → Result HashAct Why
-table_act table_verb.Put args = value_at args 1 >>= λ k. value_at args 2 >>= λ v. Ok (table.Put k v)
-table_act table_verb.Find args = value_at args 1 >>= λ k. Ok (table.Find k)
-table_act table_verb.Del args = value_at args 1 >>= λ k. Ok (table.Del k)
+table_act table_verb.Put args = value_said_at args 1 >>= λ k. value_said_at args 2 >>= λ v. Ok (table.Put k v)
+table_act table_verb.Find args = value_said_at args 1 >>= λ k. Ok (table.Find k)
+table_act table_verb.Del args = value_said_at args 1 >>= λ k. Ok (table.Del k)
 
 -- the same on a table that grows
 abbrev pub grow_act : HashAct → GrowAct
@@ -190,24 +190,24 @@ table_op (tables.Hash h) a = op.Hash (record { hash = h; act = a })
 table_op (tables.Grow g) a = op.Grow (record { grow = g; act = grow_act a })
 
 unfoldable pub cache_act : CacheWord → List (List ℕ) → Result CacheAct Why
-cache_act cache_verb.CPut args = value_at args 1 >>= λ k. value_at args 2 >>= λ v. Ok (cache.CPut k v)
-cache_act cache_verb.CPutWait args = value_at args 1 >>= λ k. value_at args 2 >>= λ v. Ok (cache.CPutWait k v)
-cache_act cache_verb.CGet args = value_at args 1 >>= λ k. Ok (cache.CGet k)
-cache_act cache_verb.CDel args = value_at args 1 >>= λ k. Ok (cache.CDel k)
+cache_act cache_verb.CPut args = value_said_at args 1 >>= λ k. value_said_at args 2 >>= λ v. Ok (cache.CPut k v)
+cache_act cache_verb.CPutWait args = value_said_at args 1 >>= λ k. value_said_at args 2 >>= λ v. Ok (cache.CPutWait k v)
+cache_act cache_verb.CGet args = value_said_at args 1 >>= λ k. Ok (cache.CGet k)
+cache_act cache_verb.CDel args = value_said_at args 1 >>= λ k. Ok (cache.CDel k)
 
 unfoldable pub mvar_act : MvarWord → List (List ℕ) → Result MvarAct Why
-mvar_act mvar_verb.Put args = value_at args 1 >>= λ v. Ok (mvar.Put v)
+mvar_act mvar_verb.Put args = value_said_at args 1 >>= λ v. Ok (mvar.Put v)
 mvar_act mvar_verb.Take args = Ok mvar.Take
 mvar_act mvar_verb.Peek args = Ok mvar.Peek
 
 unfoldable pub promise_act : PromiseWord → List (List ℕ) → Result PromiseAct Why
-promise_act promise_verb.Resolve args = value_at args 1 >>= λ v. Ok (promise.Resolve v)
+promise_act promise_verb.Resolve args = value_said_at args 1 >>= λ v. Ok (promise.Resolve v)
 promise_act promise_verb.Await args = Ok promise.Await
 promise_act promise_verb.IsResolved args = Ok promise.IsResolved
 
 -- A thread adds to the cell of its number; threads are numbered from 0 here, and the numbers of cells go round.
 unfoldable pub acc_act : ℕ → AccWord → List (List ℕ) → Result AccAct Why
-acc_act thread acc_verb.Bump args = value_at args 1 >>= λ n. Ok (acc.Bump thread n)
+acc_act thread acc_verb.Bump args = value_said_at args 1 >>= λ n. Ok (acc.Bump thread n)
 acc_act thread acc_verb.Total args = Ok acc.Total
 
 -- the kinds that have a length

@@ -2,7 +2,7 @@
 
 ghost use Rattle.std.specs.Prelude.{◌≡◌, ◌≤◌, ◌++◌, ◌∷◌, [], map, length, IfOk, OnErr};
 ghost use Rattle.kc_script_bundle.specs.Script.{names_of, next_from};
-ghost use Rattle.kc_script_lines.specs.Gives.{Gives};
+ghost use Rattle.kc_script_lines.specs.Gives.{GivesAsGrammar};
 ghost use Rattle.kc_script_lines.specs.Tests.{word_at};
 ghost use Rattle.kc_script_verbs.specs.Declaring.{fields, loc_at, stack_at, queue_at, table_at, grow_at, cache_at, mvar_at, promise_at, acc_at, object_at, declare, IsAt};
 
@@ -188,7 +188,7 @@ pub fn declare(
 ) -> Result<Object, Complaint>
     requires follows { next ≡ next_from 1 (names_of objects.old) }
     requires within { next ≤ MOST_LOCATIONS }
-    ensures gives { Gives (λ object. (word_at (map (λ word. word.now) args.now) 0, object)) result (declare (names_of objects.old) kind (map (λ word. word.now) args.now)) }
+    ensures gives { GivesAsGrammar (λ object. (word_at (map (λ word. word.now) args.now) 0, object)) result (declare (names_of objects.old) kind (map (λ word. word.now) args.now)) }
     ensures added { IfOk result (λ object. names_of objects.new ≡ names_of objects.old ++ (word_at (map (λ word. word.now) args.now) 0, object) ∷ []) }
     ensures placed { IfOk result (IsAt next) }
     ensures err { OnErr result (names_of objects.new ≡ names_of objects.old) }

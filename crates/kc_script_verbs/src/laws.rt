@@ -10,9 +10,9 @@ ghost use Rattle.kc_script_lines.specs.Tests.{word_at, first_failing, fault_of};
 ghost use Rattle.kc_script_lines.specs.declared.fault.Why.TheVariants.{TooMany};
 ghost use Rattle.kc_script_lines.specs.declared.fault.Limit.TheVariants.{Locations};
 ghost use Rattle.kc_script_verbs.specs.Canonical.{Says, Declares};
-ghost use Rattle.kc_script_verbs.specs.Declaring.{next, declare};
+ghost use Rattle.kc_script_verbs.specs.Declaring.{next_location, declare};
 ghost use Rattle.kc_script_verbs.specs.Saying.{say};
-ghost use Rattle.kc_script_verbs.specs.Fields.{kinds_of, object_kind, kind_fields, verb_fields, size_of, args_tests};
+ghost use Rattle.kc_script_verbs.specs.Fields.{kinds_of, object_kind, kind_fields, verb_fields, declared_size, args_tests};
 ghost use Rattle.kc_script_verbs.specs.declared.verb.Verb.{Verb};
 ghost use Rattle.kc_script_verbs.specs.declared.word.Kind.{Kind};
 
@@ -35,10 +35,10 @@ pub fn says_on_objects()
 /// What is wrong with the words of a declaration is the first of these tests that fails: so many words, each word from
 /// left to right, and the cells.
 pub fn declarations_are_tested()
-    ensures tests { (names : Names) (k : Kind) (args : List (List ℕ)) → fault_of (declare names k args) ≡ first_failing (args_tests (kinds_of names) (kind_fields k) args ++ (nat_le (next names + size_of k args) MOST_LOCATIONS, TooMany Locations) ∷ []) }
+    ensures tests { (names : Names) (k : Kind) (args : List (List ℕ)) → fault_of (declare names k args) ≡ first_failing (args_tests (kinds_of names) (kind_fields k) args ++ (nat_le (next_location names + declared_size k args) MOST_LOCATIONS, TooMany Locations) ∷ []) }
     ensures name { (names : Names) (k : Kind) (args : List (List ℕ)) (entry : List ℕ × Object) → declare names k args ≡ Ok entry → entry.0 ≡ word_at args 0 }
     ensures kind { (names : Names) (k : Kind) (args : List (List ℕ)) (entry : List ℕ × Object) → declare names k args ≡ Ok entry → object_kind entry.1 ≡ k }
-    ensures size { (names : Names) (k : Kind) (args : List (List ℕ)) (entry : List ℕ × Object) → declare names k args ≡ Ok entry → cells entry.1 ≡ size_of k args }
+    ensures size { (names : Names) (k : Kind) (args : List (List ℕ)) (entry : List ℕ × Object) → declare names k args ≡ Ok entry → cells entry.1 ≡ declared_size k args }
 {}
 
 /// What is wrong with the words of a command is the first of these tests that fails: so many words, and each word from left

@@ -1,7 +1,7 @@
 //! Numbers, and the words for functions and relations.
 
 ghost use Rattle.std.specs.Prelude.{◌≡◌, ◌<◌, map, length};
-ghost use Rattle.kc_script_verbs.specs.Saying.{value_at, fun_named, fun_of, fun_at, rel_named};
+ghost use Rattle.kc_script_verbs.specs.Saying.{value_said_at, fun_named, fun_of, fun_at, rel_named};
 
 use kc_loc::{Fun, Rel};
 use kc_script_lines::{Why, number_to, word_at};
@@ -21,7 +21,7 @@ pub enum FunWord {
 #[tactic(auto, unfolding(crate::specs::Saying::value_at))]
 pub fn value_at(args: &[&[u8]], i: usize) -> Result<u32, Why>
     requires { i < length args.now }
-    ensures { result ≡ value_at (map (λ word. word.now) args.now) i }
+    ensures { result ≡ value_said_at (map (λ word. word.now) args.now) i }
 {
     number_to(u32::MAX, word_at(args, i))
 }

@@ -2,7 +2,7 @@
 
 ghost use Rattle.std.specs.Prelude.{◌≡◌, ◌++◌, ◌∷◌, [], None, OnOk, OnErr, is_some, not};
 ghost use Rattle.kc_script_bundle.specs.Script.{names_of};
-ghost use Rattle.kc_script_lines.specs.Gives.{Gives};
+ghost use Rattle.kc_script_lines.specs.Gives.{GivesAsGrammar};
 ghost use Rattle.kc_script_lines.specs.Tests.{wants};
 ghost use Rattle.kc_script_lines.specs.declared.fault.Why.TheVariants.{RepeatedName};
 ghost use Rattle.kc_script_verbs.specs.Objects.{object_of, used, as_loc, as_stack, as_queue, as_table, as_cache, as_mvar, as_promise, as_acc};
@@ -58,7 +58,7 @@ pub(crate) fn add_new(
     name: &str,
     object: Object,
 ) -> Result<(), Complaint>
-    ensures new { Gives (λ _. tt) result (wants (not (is_some (object_of (names_of objects.old) name.now))) RepeatedName) }
+    ensures new { GivesAsGrammar (λ _. tt) result (wants (not (is_some (object_of (names_of objects.old) name.now))) RepeatedName) }
     ensures added { OnOk result (names_of objects.new ≡ names_of objects.old ++ (name.now, object) ∷ []) }
     ensures err { OnErr result (names_of objects.new ≡ names_of objects.old) }
 {

@@ -18,15 +18,15 @@ use Rattle.kc_xt.specs.Program.{Program, plain, retries, read, write}
 use Rattle.kc_xt.specs.Structure.{Value, comes_to, goes_on, RunsInsideOthers, MeansItsValue}
 use Rattle.kc_stack.specs.declared.operation.StackAct.TheVariants as act
 use Rattle.kc_stack.proofs.StackLaw.{stack_stays}
-use Rattle.kc_stack.specs.Content.{StandsFor, stack_value, top_of}
-use Rattle.kc_stack.specs.Meaning.{stack_program, stack_meaning, stack_begin, stack_end, counted}
+use Rattle.kc_stack.specs.Content.{StackStandsFor, stack_value, top_of}
+use Rattle.kc_stack.specs.Meaning.{stack_program, stack_meaning, stack_begin, stack_end, stack_counted}
 use Rattle.kc_stack.specs.declared.operation.StackOp.{StackOp}
 
-module _ (s : Stack) (m : ℕ → ℕ) (items : List ℕ) (stands : StandsFor s m items) where
-  counts : counted s (m s.base.0) ≡ length items
+module _ (s : Stack) (m : ℕ → ℕ) (items : List ℕ) (stands : StackStandsFor s m items) where
+  counts : stack_counted s (m s.base.0) ≡ length items
   counts = let c = stands.count in let w = stands.within in omega arith
 
-  pushed : (v : ℕ) → length items ≢ s.cap → StandsFor s (put (put m (s.base.0 + 1 + length items) v) s.base.0 (length items + 1)) (items ++ v ∷ [])
+  pushed : (v : ℕ) → length items ≢ s.cap → StackStandsFor s (put (put m (s.base.0 + 1 + length items) v) s.base.0 (length items + 1)) (items ++ v ∷ [])
   pushed v ne =
       let n = length-append items (v ∷ []) in
       record {
@@ -45,7 +45,7 @@ module _ (s : Stack) (m : ℕ → ℕ) (items : List ℕ) (stands : StandsFor s 
         ];
       }
 
-  popped : length items ≢ 0 → StandsFor s (put m s.base.0 (length items - 1)) (take (length items - 1) items)
+  popped : length items ≢ 0 → StackStandsFor s (put m s.base.0 (length items - 1)) (take (length items - 1) items)
   popped ne =
       let n : length (take (length items - 1) items) ≡ length items - 1 = omega (arith, length-take (length items - 1) items) in
       record {
@@ -64,7 +64,7 @@ module _ (s : Stack) (m : ℕ → ℕ) (items : List ℕ) (stands : StandsFor s 
       ap m e ∙ stands.cells (length items - 1) (omega arith)
 
   abbrev Goes : ((Reply → Program) → Program) → Value (List ℕ) → Type 0
-  Goes program v = GoesTo (StandsFor s) program m v
+  Goes program v = GoesTo (StackStandsFor s) program m v
 
   -- the list and the map stay
   stays : {program : (Reply → Program) → Program} {o : Outcome} → ((k : Reply → Program) → plain (program k) m ≡ goes_on o k m) → Goes program (comes_to o items)
@@ -86,7 +86,7 @@ module _ (s : Stack) (m : ℕ → ℕ) (items : List ℕ) (stands : StandsFor s 
   top_by false e = stays (λ k. ap (λ v. plain (k (reply.Value v)) m) (top_read (eqb-false _ _ e)))
 
   -- behind the count, which is that of the items
-  behind_count : (program : ℕ → (Reply → Program) → Program) (v : Value (List ℕ)) → Goes (program (length items)) v → Goes (λ k. read s.base.0 (λ n. program (counted s n) k)) v
+  behind_count : (program : ℕ → (Reply → Program) → Program) (v : Value (List ℕ)) → Goes (program (length items)) v → Goes (λ k. read s.base.0 (λ n. program (stack_counted s n) k)) v
   behind_count program v g = let h = subst (λ c. Goes (program c) v) (sym counts) g in record { left = h.left; runs = h.runs; stand = h.stand }
 
   act_goes : (a : StackAct) → Goes (stack_program s a) (stack_value s a items)
@@ -97,8 +97,8 @@ module _ (s : Stack) (m : ℕ → ℕ) (items : List ℕ) (stands : StandsFor s 
   act_goes act.Len = behind_count (λ c k. k (reply.Value c)) _ (stays (λ k. refl))
 
 -- inside whatever longer program
-pub stack_inside : (o : StackOp) (items : List ℕ) → RunsInsideOthers (StandsFor o.stack) (stack_begin o) (stack_end o) (stack_program o.stack o.act) items (stack_value o.stack o.act items)
+pub stack_inside : (o : StackOp) (items : List ℕ) → RunsInsideOthers (StackStandsFor o.stack) (stack_begin o) (stack_end o) (stack_program o.stack o.act) items (stack_value o.stack o.act items)
 stack_inside o items m stands = runs_to (stack_stays o) (act_goes o.stack m items stands o.act)
 
-pub stack_means : (o : StackOp) (items : List ℕ) → MeansItsValue (StandsFor o.stack) (stack_meaning o) items (stack_value o.stack o.act items)
+pub stack_means : (o : StackOp) (items : List ℕ) → MeansItsValue (StackStandsFor o.stack) (stack_meaning o) items (stack_value o.stack o.act items)
 stack_means o items = runs_means (stack_program o.stack o.act) items (stack_value o.stack o.act items) (stack_inside o items)

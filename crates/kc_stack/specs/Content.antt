@@ -8,7 +8,7 @@ use Rattle.kc_xt.specs.Structure.{Value, comes_to}
 use Rattle.kc_stack.specs.declared.operation.StackAct.TheVariants as act
 
 -- the cells stand for these items
-pub record StandsFor (s : Stack) (m : ℕ → ℕ) (items : List ℕ) : Type 0 where
+pub record StackStandsFor (s : Stack) (m : ℕ → ℕ) (items : List ℕ) : Type 0 where
   pub count : m s.base.0 ≡ length items
   pub within : length items ≤ s.cap
   pub cells : (i : ℕ) → i < length items → m (s.base.0 + 1 + i) ≡ slice_index items i
@@ -22,12 +22,12 @@ abbrev pub top_of : List ℕ → ℕ
 top_of items = slice_index items (length items - 1)
 
 -- the top is taken; or, where there is none, it ends so
-abbrev pub taken : Outcome → List ℕ → Value (List ℕ)
-taken none items = cond (length items == 0) (comes_to none items) (comes_to (replied (reply.Value (top_of items))) (take (length items - 1) items))
+abbrev pub top_taken : Outcome → List ℕ → Value (List ℕ)
+top_taken none items = cond (length items == 0) (comes_to none items) (comes_to (replied (reply.Value (top_of items))) (take (length items - 1) items))
 
 abbrev pub stack_value : Stack → StackAct → List ℕ → Value (List ℕ)
 stack_value s (act.Push v) items = cond (length items == s.cap) (comes_to (replied reply.Full) items) (comes_to (replied reply.Unit) (items ++ v ∷ []))
-stack_value s act.Pop items = taken (replied reply.Empty) items
-stack_value s act.PopWait items = taken retried items
+stack_value s act.Pop items = top_taken (replied reply.Empty) items
+stack_value s act.PopWait items = top_taken retried items
 stack_value s act.Top items = comes_to (cond (length items == 0) (replied reply.Empty) (replied (reply.Value (top_of items)))) items
 stack_value s act.Len items = comes_to (replied (reply.Value (length items))) items

@@ -2,7 +2,7 @@
 
 ghost use Rattle.std.specs.Prelude.{◌≡◌, ◌<◌, ◌≤◌};
 ghost use Rattle.kc_xt.specs.Steps.{Does};
-ghost use Rattle.kc_stack.specs.Meaning.{stack_program, pop_program, cells_end};
+ghost use Rattle.kc_stack.specs.Meaning.{stack_program, pop_program, stack_cells_end};
 
 use crate::operation::StackAct;
 use crate::stack::Stack;
@@ -10,7 +10,7 @@ use kc_model::{Loc, Reply};
 use kc_xt::{Peek, Stop, Xt};
 
 pub(crate) fn push<P: Peek>(stack: Stack, value: u32, xt: &mut Xt<P>) -> Result<Reply, Stop>
-    requires { cells_end stack ≤ P.locations xt.old.peek }
+    requires { stack_cells_end stack ≤ P.locations xt.old.peek }
     ensures goes { Does P.peek_gives (stack_program stack (StackAct.Push value)) xt.old result xt.new }
     ensures size { P.locations xt.new.peek ≡ P.locations xt.old.peek }
 {
@@ -26,7 +26,7 @@ pub(crate) fn push<P: Peek>(stack: Stack, value: u32, xt: &mut Xt<P>) -> Result<
 
 /// Both forms: one waits where there is no item, the other replies Empty.
 pub(crate) fn pop<P: Peek>(stack: Stack, waits: bool, xt: &mut Xt<P>) -> Result<Reply, Stop>
-    requires { cells_end stack ≤ P.locations xt.old.peek }
+    requires { stack_cells_end stack ≤ P.locations xt.old.peek }
     ensures goes { Does P.peek_gives (pop_program stack waits) xt.old result xt.new }
     ensures size { P.locations xt.new.peek ≡ P.locations xt.old.peek }
 {
@@ -44,7 +44,7 @@ pub(crate) fn pop<P: Peek>(stack: Stack, waits: bool, xt: &mut Xt<P>) -> Result<
 }
 
 pub(crate) fn top<P: Peek>(stack: Stack, xt: &mut Xt<P>) -> Result<Reply, Stop>
-    requires { cells_end stack ≤ P.locations xt.old.peek }
+    requires { stack_cells_end stack ≤ P.locations xt.old.peek }
     ensures goes { Does P.peek_gives (stack_program stack StackAct.Top) xt.old result xt.new }
     ensures size { P.locations xt.new.peek ≡ P.locations xt.old.peek }
 {
@@ -58,7 +58,7 @@ pub(crate) fn top<P: Peek>(stack: Stack, xt: &mut Xt<P>) -> Result<Reply, Stop>
 }
 
 pub(crate) fn length<P: Peek>(stack: Stack, xt: &mut Xt<P>) -> Result<Reply, Stop>
-    requires { cells_end stack ≤ P.locations xt.old.peek }
+    requires { stack_cells_end stack ≤ P.locations xt.old.peek }
     ensures goes { Does P.peek_gives (stack_program stack StackAct.Len) xt.old result xt.new }
     ensures size { P.locations xt.new.peek ≡ P.locations xt.old.peek }
 {

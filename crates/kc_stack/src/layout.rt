@@ -3,8 +3,8 @@
 ghost use Rattle.std.specs.Prelude.{◌≡◌, ◌≤◌, ◌<◌, ◌+◌, ◌-◌, ℕ, List, length, reverse, slice_index};
 ghost use Rattle.kc_model.specs.Store.{store_of};
 ghost use Rattle.kc_xt.specs.Meaning.{values};
-ghost use Rattle.kc_stack.specs.Meaning.{stack_cells, cells_end, counted};
-ghost use Rattle.kc_stack.specs.Content.{stack_opening, StandsFor};
+ghost use Rattle.kc_stack.specs.Meaning.{stack_cells, stack_cells_end, stack_counted};
+ghost use Rattle.kc_stack.specs.Content.{stack_opening, StackStandsFor};
 
 use crate::stack::Stack;
 use kc_model::{Loc, MOST_LOCATIONS, PlainStore};
@@ -53,19 +53,19 @@ impl Stack {
 
     /// How many items it has in a store. A number of items above the capacity counts as the capacity.
     pub fn count(&self, store: &PlainStore) -> u32
-        requires { cells_end self.now ≤ length store.now }
-        ensures is { result ≡ counted self.now (values (store_of store.now) self.now.base.0) }
-        ensures content { (items : List ℕ) → StandsFor self.now (values (store_of store.now)) items → result ≡ length items }
+        requires { stack_cells_end self.now ≤ length store.now }
+        ensures is { result ≡ stack_counted self.now (values (store_of store.now) self.now.base.0) }
+        ensures content { (items : List ℕ) → StackStandsFor self.now (values (store_of store.now)) items → result ≡ length items }
     {
         store.get(self.base).unwrap().min(self.cap)
     }
 
     /// An item in a store; that of index 0 is on top.
     pub fn item(&self, store: &PlainStore, index: u32) -> u32
-        requires within { cells_end self.now ≤ length store.now }
-        requires index { index < counted self.now (values (store_of store.now) self.now.base.0) }
-        ensures is { result ≡ values (store_of store.now) (self.now.base.0 + counted self.now (values (store_of store.now) self.now.base.0) - index) }
-        ensures content { (items : List ℕ) → StandsFor self.now (values (store_of store.now)) items → result ≡ slice_index (reverse items) index }
+        requires within { stack_cells_end self.now ≤ length store.now }
+        requires index { index < stack_counted self.now (values (store_of store.now) self.now.base.0) }
+        ensures is { result ≡ values (store_of store.now) (self.now.base.0 + stack_counted self.now (values (store_of store.now) self.now.base.0) - index) }
+        ensures content { (items : List ℕ) → StackStandsFor self.now (values (store_of store.now)) items → result ≡ slice_index (reverse items) index }
     {
         let count = self.count(store);
         store.get(Loc(self.base.0 + count - index)).unwrap()

@@ -14,7 +14,7 @@ use Rattle.kc_store.specs.Knows.{IsHistory, IsWithin, entries_of}
 use Rattle.kc_store.specs.Rests.{Rests}
 use Rattle.kc_store.specs.Views.{CallerView, StoreView, caller_view, last, past_view, store_view}
 use Rattle.kc_hang.specs.kc_table_moves.Origins.{Origin, opening_of}
-use Rattle.kc_hang.specs.kc_table_moves.Views.{AreAll, IsPart, IsPast, PastView, SeatView, TableView, numbers}
+use Rattle.kc_hang.specs.kc_table_moves.Views.{AreAll, IsPart, IsPast, TablePastView, SeatView, TableView, numbers}
 use Rattle.kc_hang.specs.kc_table_views.Known.{known}
 
 -- a caller is what its seat shows, and what it was told
@@ -62,7 +62,7 @@ all_back z y callers e a shown rest = record {
 
 -- ---- the history
 
-module _ (z : TableView) (callers : List CallerView) (p : PastView) (shown : All IsShown callers) (past : IsPast z (map (λ (c : CallerView). c.seat) callers) p) where
+module _ (z : TableView) (callers : List CallerView) (p : TablePastView) (shown : All IsShown callers) (past : IsPast z (map (λ (c : CallerView). c.seat) callers) p) where
   abbrev seat : CallerView → SeatView
   seat c = c.seat
 
@@ -84,8 +84,8 @@ module _ (z : TableView) (callers : List CallerView) (p : PastView) (shown : All
         (All-map (λ (e : Entry). e.caller < p.origin.callers) (λ (x : Placed). x.entry) (known (opening_of p.origin) p.schedule) past.whole.of_callers);
   }
 
-pub history_back : (z : StoreView) (y : TableView) (callers : List CallerView) (p : PastView) → store_view y ≡ z → All IsShown callers → IsPast y (map (λ (c : CallerView). c.seat) callers) p → IsHistory z callers (past_view p)
+pub history_back : (z : StoreView) (y : TableView) (callers : List CallerView) (p : TablePastView) → store_view y ≡ z → All IsShown callers → IsPast y (map (λ (c : CallerView). c.seat) callers) p → IsHistory z callers (past_view p)
 history_back z y callers p e shown past = subst (λ (x : StoreView). IsHistory x callers (past_view p)) e (history y callers p shown past)
 
-pub past_back : (z : StoreView) (y : TableView) (seats : List SeatView) (p : PastView) → store_view y ≡ z → IsPast y seats p → IsPast z.table seats p
+pub past_back : (z : StoreView) (y : TableView) (seats : List SeatView) (p : TablePastView) → store_view y ≡ z → IsPast y seats p → IsPast z.table seats p
 past_back z y seats p e past = subst (λ (x : TableView). IsPast x seats p) (ap (λ (x : StoreView). x.table) e) past

@@ -4,7 +4,7 @@ use Rattle.arrayvec.specs.ArrayVec.{ArrayVec}
 use Rattle.kc_hang.specs.declared.hang_state.HangState.{HangState}
 use Rattle.kc_hang.specs.kc_table_moves.Views.{SeatView}
 use Rattle.kc_model.specs.declared.footprint.Seen.{Seen}
-use Rattle.kc_store.specs.Hanging.{Stands}
+use Rattle.kc_store.specs.Hanging.{HangingStands}
 use Rattle.kc_store.specs.HangingView.{HangingView}
 use Rattle.kc_store.specs.Rests.{KnowsItsWear, Rests}
 use Rattle.kc_store.specs.Views.{CallerView, caller_view}
@@ -25,5 +25,5 @@ hanging_view worn reads state begun v = record { caller = caller_view worn v; re
 pub hanging_of : (worn : Bool) (reads : ArrayVec Seen) (state : HangState) (begun : Bool) (v b : SeatView) (h : HangingView) → v ≡ b → hanging_view worn reads state begun b ≡ h → hanging_view worn reads state begun v ≡ h
 hanging_of worn reads state begun v b h lent is = ap (hanging_view worn reads state begun) lent ∙ is
 
-pub stands_so : (state : HangState) (begun : Bool) (reads : ArrayVec Seen) (v b : SeatView) → v ≡ b → Stands state begun reads b → Stands state begun reads v
-stands_so state begun reads v b lent s = subst (Stands state begun reads) (sym lent) s
+pub stands_so : (state : HangState) (begun : Bool) (reads : ArrayVec Seen) (v b : SeatView) → v ≡ b → HangingStands state begun reads b → HangingStands state begun reads v
+stands_so state begun reads v b lent s = subst (HangingStands state begun reads) (sym lent) s

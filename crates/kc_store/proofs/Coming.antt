@@ -10,31 +10,31 @@ use Rattle.kc_machine_words.specs.declared.words.Mode.{Mode}
 use Rattle.kc_model.specs.declared.footprint.Footprint.{Footprint}
 use Rattle.kc_store.proofs.Doing.{did_does, did_gains}
 use Rattle.kc_store.specs.Answers.{own_entries}
-use Rattle.kc_store.specs.Steps.{IsSpent}
-use Rattle.kc_store.specs.Tries.{Comes, Did, WasTold}
+use Rattle.kc_store.specs.Steps.{StepsAreSpent}
+use Rattle.kc_store.specs.Tries.{TaskComes, Did, WasTold}
 use Rattle.kc_store.specs.Works.{EndsOrIsLeft, StaysWorn, is_told_worn}
 use Rattle.kc_store.specs.declared.budget.Budget.{Budget}
 use Rattle.kc_hang.specs.kc_table_moves.Views.{SeatView, opening_at_seat}
 use Rattle.kc_hang.proofs.kc_table_laws.Causing.{worn_task}
 use Rattle.kc_hang.proofs.kc_table_laws.Wearing.{stays_undecided}
-use Rattle.kc_hang.specs.kc_table_laws.Tasks.{Does}
+use Rattle.kc_hang.specs.kc_table_laws.Tasks.{DoesTask}
 use Rattle.kc_hang.specs.kc_table_laws.Told.{IsUndecided, IsWornOut}
 
 module _ (start v : SeatView) (t : Task) (a : Told) (w : SeatView) where
-  pub come_gains : Comes start v t a w → GainsAsTold v.number t (Some a) (own_entries v) (own_entries w)
+  pub come_gains : TaskComes start v t a w → GainsAsTold v.number t (Some a) (own_entries v) (own_entries w)
   come_gains (inl s) = subst (λ y. GainsAsTold v.number t y (own_entries v) (own_entries w)) s.says (did_gains v w t s.did s.idle)
   come_gains (inr n) = subst (λ y. GainsAsTold v.number t (Some y) (own_entries v) (own_entries w)) (sym n.halted) (ap own_entries n.stays)
 
-  pub come_told : a ≢ told.Halted → Comes start v t a w → WasTold start v t a w
+  pub come_told : a ≢ told.Halted → TaskComes start v t a w → WasTold start v t a w
   come_told other (inl s) = s
   come_told other (inr n) = absurd (other n.halted)
 
-  pub was_done : a ≢ told.Halted → WasTold start v t a w → Does v t w
+  pub was_done : a ≢ told.Halted → WasTold start v t a w → DoesTask v t w
   was_done other s = did_does v w t a s.did s.idle s.says other
 
-  pub come_spent : Comes start v t a w → a ≡ told.Halted → IsSpent start w
+  pub come_spent : TaskComes start v t a w → a ≡ told.Halted → StepsAreSpent start w
   come_spent (inl s) e = s.spent e
-  come_spent (inr n) e = subst (IsSpent start) (sym n.stays) n.spent
+  come_spent (inr n) e = subst (StepsAreSpent start) (sym n.stays) n.spent
 
 -- ---- where no life is left
 
@@ -42,7 +42,7 @@ pub did_worn : (v w : SeatView) (t : Task) → Did v t w → StaysWorn v w
 did_worn v w t (inl d) = worn_task v w t d
 did_worn v w t (inr (u, d, e)) = λ f. subst (λ (x : SeatView). IsWornOut (opening_at_seat x) x.past) (sym e) (worn_task v u t d f)
 
-pub come_worn : (start v : SeatView) (t : Task) (a : Told) (w : SeatView) → Comes start v t a w → StaysWorn v w
+pub come_worn : (start v : SeatView) (t : Task) (a : Told) (w : SeatView) → TaskComes start v t a w → StaysWorn v w
 come_worn start v t a w (inl s) = did_worn v w t s.did
 come_worn start v t a w (inr n) = λ f. subst (λ (x : SeatView). IsWornOut (opening_at_seat x) x.past) (sym n.stays) f
 

@@ -4,12 +4,12 @@ use Rattle.std.specs.Option.{option_map}
 use Rattle.std.specs.Prelude.{Contains}
 use Rattle.kc_hang.specs.kc_machine.Machine.{pool_size}
 use Rattle.kc_hang.specs.kc_machine.Schedules.{IsWellMadeTask}
-use Rattle.kc_hang.specs.kc_machine_traces.Histories.{History, Placed, ending}
+use Rattle.kc_hang.specs.kc_machine_traces.Histories.{History, Placed, ending_store}
 use Rattle.kc_hang.specs.kc_machine_traces.Traces.{first_store}
 use Rattle.kc_machine_steps.specs.declared.task.Task.TheVariants as task
 use Rattle.kc_machine_steps.specs.declared.task.Task.{Task}
 use Rattle.kc_machine_steps.specs.declared.task.Told.TheVariants as told
-use Rattle.kc_hang.specs.kc_machine_traces.Entries.{by}
+use Rattle.kc_hang.specs.kc_machine_traces.Entries.{placed_by}
 use Rattle.kc_machine_words.specs.declared.words.Mode.TheVariants.{All}
 use Rattle.kc_model.proofs.Stores.{Contains-first, Contains-later}
 use Rattle.kc_model.specs.Footprint.{IsBelow, IsWellMade, put_at}
@@ -34,9 +34,9 @@ use Rattle.kc_store.specs.declared.verdict.Answered.TheVariants as answered
 use Rattle.kc_hang.specs.kc_table_moves.Origins.{opening_of}
 use Rattle.kc_hang.specs.kc_table_moves.Views.{SeatView, TableView, knows, opening_at_seat}
 use Rattle.kc_hang.proofs.kc_table_laws.Running.{does_ran}
-use Rattle.kc_hang.specs.kc_table_laws.Tasks.{Does, Keeps}
+use Rattle.kc_hang.specs.kc_table_laws.Tasks.{DoesTask, KeepsKnown}
 use Rattle.kc_table_laws.proofs.Knowing.{own_before, own_behind}
-use Rattle.kc_table_laws.specs.Sole.{HasNoLife, IsSole, Rests, standing}
+use Rattle.kc_table_laws.specs.Sole.{HasNoLife, IsSole, TableRests, standing}
 use Rattle.kc_xt.specs.Commit.{Came, answer_of, run_on}
 use Rattle.kc_xt.specs.Meaning.{CanMake, Makes, Meaning, Outcome, Touch, replied, retried, too_large}
 use Rattle.kc_xt.specs.declared.attempts.Tried.{Tried}
@@ -72,21 +72,21 @@ can_make s ts f made m l v wrote =
 
 -- ---- an entry at the end
 
-ending_push : (s : Store) (h : History) (x : Placed) (l : ℕ) → ending s (h ++ x ∷ []) l ≡ after x.entry.footprint (ending s h) l
+ending_push : (s : Store) (h : History) (x : Placed) (l : ℕ) → ending_store s (h ++ x ∷ []) l ≡ after x.entry.footprint (ending_store s h) l
 ending_push s [] x l = refl
 ending_push s (y ∷ h) x l = ending_push (after y.entry.footprint s) h x l
 
 -- ---- pools
 
 -- where the generations are the same
-no_life : (v w : SeatView) → w.of ≡ v.of → Rests v w → HasNoLife v → HasNoLife w
+no_life : (v w : SeatView) → w.of ≡ v.of → TableRests v w → HasNoLife v → HasNoLife w
 no_life v w of r none d l =
     let n : pool_size w.of.origin.callers ≡ pool_size v.of.origin.callers = ap (λ (z : TableView). pool_size z.origin.callers) of in
     let a = none d (omega (arith, l, n)) in
     let b = r.generations d in
     omega (arith, a, b)
 
-life_back : (v w : SeatView) → w.of ≡ v.of → Rests v w → HasNoLife w → HasNoLife v
+life_back : (v w : SeatView) → w.of ≡ v.of → TableRests v w → HasNoLife w → HasNoLife v
 life_back v w of r none d l =
     let n : pool_size w.of.origin.callers ≡ pool_size v.of.origin.callers = ap (λ (z : TableView). pool_size z.origin.callers) of in
     let a = none d (omega (arith, l, n)) in
@@ -143,10 +143,10 @@ module _ (m : Meaning) (a : Reply) (before : Footprint) (v : SeatView) (f : Foot
   can = can_make (standing v) (run_on m (standing v)).touches f came.well_made makes
 
   module _ (b : Bool) (y : CommitsAlone f b u w) where
-    does : Does u t w
+    does : DoesTask u t w
     does = does_ran u w t (tried_starts u t refl x.passes.idle) made y.ran
 
-    pub keeps_both : Keeps v w
+    pub keeps_both : KeepsKnown v w
     keeps_both = keeps_then v u w x.passes.keeps (did_keeps u w t (inl does))
 
     pub blocked_both : w.seat.blocked ≡ v.seat.blocked
@@ -175,7 +175,7 @@ module _ (m : Meaning) (a : Reply) (before : Footprint) (v : SeatView) (f : Foot
         sole_u = ap (λ (z : TableView). z.origin.callers) of_u ∙ sole
 
         none : own_entries u ≡ own_entries v
-        none = (λ i. by (x.passes.keeps.number i) (x.passes.rests.knows i))
+        none = (λ i. placed_by (x.passes.keeps.number i) (x.passes.rests.knows i))
 
         gained : Gains v f w
         gained = gains v u w z.0.0 f All (task.Commit f All) x.passes.keeps none does y.idle z.0.1 (success_known u w z.0.0 f All does z.0.1)
@@ -187,4 +187,4 @@ module _ (m : Meaning) (a : Reply) (before : Footprint) (v : SeatView) (f : Foot
         listed = sym (own_behind u w t sole_u does) ∙ gained.own ∙ ap (λ h. h ++ entry ∷ []) (sym none ∙ own_before u w t sole_u does ∙ x.passes.rests.knows)
 
         stands : (l : ℕ) → standing w l ≡ after f (standing v) l
-        stands l = (λ i. ending (first_store (opening_of (keeps_both.of i).origin)) (listed i) l) ∙ ending_push (first_store (opening_at_seat v)) (knows v) entry l
+        stands l = (λ i. ending_store (first_store (opening_of (keeps_both.of i).origin)) (listed i) l) ∙ ending_push (first_store (opening_at_seat v)) (knows v) entry l

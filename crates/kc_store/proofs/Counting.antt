@@ -17,7 +17,7 @@ use Rattle.kc_machine_steps.specs.declared.task.Task.{Task}
 use Rattle.kc_machine_steps.specs.declared.task.Task.TheVariants as task
 use Rattle.kc_machine_words.specs.declared.access.Found.{Found}
 use Rattle.kc_hang.specs.kc_machine.Hangs.{hang_after, hang_onward, leave_after, leave_onward}
-use Rattle.kc_hang.specs.kc_machine.Seats.{after, answer_by, begun, begun_idle, ended, halted, halted_by, is_idle}
+use Rattle.kc_hang.specs.kc_machine.Seats.{seat_after, answer_by, begun, begun_idle, seat_halted, halted, halted_by, is_idle}
 use Rattle.kc_hang.specs.kc_machine.Works.{Work}
 use Rattle.kc_hang.specs.kc_machine.Works as work
 use Rattle.kc_hang.specs.kc_machine.declared.seat.Seat.{Seat}
@@ -86,7 +86,7 @@ few_more n = go (nat_lt n 18446744073709551615) refl
     go true e = rw e (omega arith)
     go false e = rw e (omega arith)
 
-few_after : (s : Seat) (n : Onward) → (after s n).made ≤ s.made + 1
+few_after : (s : Seat) (n : Onward) → (seat_after s n).made ≤ s.made + 1
 few_after s onward.Goes = few_more s.made
 few_after s onward.Takes = few_more s.made
 few_after s onward.Unblocks = few_more s.made
@@ -118,7 +118,7 @@ made_begun s t = go (is_idle s.work) t
 made_halted : (s : Seat) → (halted s).made ≡ s.made
 made_halted s = go s s.work
   where
-    two : (s x : Seat) (b : Bool) → x.made ≡ s.made → (if b then ended s else x).made ≡ s.made
+    two : (s x : Seat) (b : Bool) → x.made ≡ s.made → (if b then seat_halted s else x).made ≡ s.made
     two s x true e = refl
     two s x false e = e
 

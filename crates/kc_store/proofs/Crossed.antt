@@ -11,14 +11,14 @@ use Rattle.kc_model.specs.declared.footprint.Seen.{Seen}
 use Rattle.kc_store.proofs.Doing.{did_does}
 use Rattle.kc_store.proofs.Looking.{advances_then, comes, ends_advance, from_on, told_so}
 use Rattle.kc_store.proofs.Standing.{swapping_commits}
-use Rattle.kc_store.specs.Tries.{InstallsAtOnce, WasTold, once, again, behind_swap, by_install, by_swap, is_crossed, swap_ends}
+use Rattle.kc_store.specs.Tries.{InstallsAtOnce, WasTold, once, again, behind_swap, by_install, by_swap, is_told_crossed, swap_ends}
 use Rattle.kc_store.specs.Works.{Advances, AllCommitted, AllInstalled, EndsOrIsLeft, IsFrom, is_told_committing, is_told_swapping}
 use Rattle.kc_store.specs.declared.budget.Budget.{Budget}
 use Rattle.kc_hang.specs.kc_table_moves.Views.{SeatView}
 use Rattle.kc_hang.proofs.kc_table_laws.Causing.{crossed_so}
-use Rattle.kc_hang.specs.kc_table_views.Tasks.{put_of}
+use Rattle.kc_hang.specs.kc_table_views.Tasks.{put_by_swap}
 
-pub installed_once : (f : Footprint) (a : Told) (v : SeatView) (b : Budget) (w : SeatView) → is_idle v.seat.work ≡ true → EndsOrIsLeft (task.Commit f Light) v b a w → is_told_committing (Some a) ≡ true → is_crossed a ≡ false → AllInstalled f a v b w
+pub installed_once : (f : Footprint) (a : Told) (v : SeatView) (b : Budget) (w : SeatView) → is_idle v.seat.work ≡ true → EndsOrIsLeft (task.Commit f Light) v b a w → is_told_committing (Some a) ≡ true → is_told_crossed a ≡ false → AllInstalled f a v b w
 installed_once f a v b w idle e said light = record {
   installs = λ start h. once a w (comes start v b (task.Commit f Light) a w h e) light;
   advances = ends_advance v b (task.Commit f Light) a w idle e;
@@ -27,7 +27,7 @@ installed_once f a v b w idle e said light = record {
 }
 
 -- a commit in mode All is not crossed
-all_uncrossed : (f : Footprint) (a : Told) (v : SeatView) (b : Budget) (w : SeatView) → EndsOrIsLeft (task.Commit f All) v b a w → is_crossed a ≡ false
+all_uncrossed : (f : Footprint) (a : Told) (v : SeatView) (b : Budget) (w : SeatView) → EndsOrIsLeft (task.Commit f All) v b a w → is_told_crossed a ≡ false
 all_uncrossed f (told.Crossed i) v b w (inl (h, e)) =
     let light : All ≡ Light = (crossed_so v w i f All (did_does v w (task.Commit f All) (told.Crossed i) e.ran.did e.idle e.says (λ x. absurd (cc))) e.says).0 in
     absurd (cc)
@@ -41,7 +41,7 @@ all_uncrossed f told.Hung v b w e = refl
 all_uncrossed f (told.Changed i) v b w e = refl
 all_uncrossed f told.Free v b w e = refl
 
-crossed_at : (a : Told) → is_crossed a ≡ true → (i : ℕ) × (a ≡ told.Crossed i)
+crossed_at : (a : Told) → is_told_crossed a ≡ true → (i : ℕ) × (a ≡ told.Crossed i)
 crossed_at (told.Crossed i) e = (i, refl)
 crossed_at (told.Succeeded n) e = absurd (cc)
 crossed_at (told.Failed i) e = absurd (cc)
@@ -56,7 +56,7 @@ crossed_at told.Free e = absurd (cc)
 crossed_told : (start v : SeatView) (b : Budget) (t : Task) (i : ℕ) (w : SeatView) → IsFrom start b v → EndsOrIsLeft t v b (told.Crossed i) w → WasTold start v t (told.Crossed i) w
 crossed_told start v b t i w h e = told_so start v b t (told.Crossed i) w (λ x. absurd (cc)) h e
 
-pub installed_again : (f : Footprint) (x a : Told) (v : SeatView) (b : Budget) (u w : SeatView) → is_idle v.seat.work ≡ true → EndsOrIsLeft (task.Commit f Light) v b x u → is_crossed x ≡ true → EndsOrIsLeft (task.Commit f All) u b a w → is_told_committing (Some a) ≡ true
+pub installed_again : (f : Footprint) (x a : Told) (v : SeatView) (b : Budget) (u w : SeatView) → is_idle v.seat.work ≡ true → EndsOrIsLeft (task.Commit f Light) v b x u → is_told_crossed x ≡ true → EndsOrIsLeft (task.Commit f All) u b a w → is_told_committing (Some a) ≡ true
     → AllInstalled f a v b w
 installed_again f x a v b u w idle first crossed second said = go (crossed_at x crossed)
   where
@@ -76,7 +76,7 @@ installed_again f x a v b u w idle first crossed second said = go (crossed_at x 
 -- ---- where a swap comes first
 
 -- what a swap was told is a crossing, or ends it
-pub crossed_or_ends : (a : Told) → is_told_swapping (Some a) ≡ true → is_crossed a ≡ false → swap_ends a ≡ true
+pub crossed_or_ends : (a : Told) → is_told_swapping (Some a) ≡ true → is_told_crossed a ≡ false → swap_ends a ≡ true
 crossed_or_ends (told.Succeeded n) e x = refl
 crossed_or_ends (told.Failed i) e x = e
 crossed_or_ends told.Halted e x = refl
@@ -90,7 +90,7 @@ crossed_or_ends told.Free e x = absurd (cc)
 pub committed_installed : (f : Footprint) (a : Told) (v : SeatView) (b : Budget) (w : SeatView) → InstallsAtOnce f v → AllInstalled f a v b w → AllCommitted f a v b w
 committed_installed f a v b w at_once x = record { commits = λ start h. by_install a w at_once (x.installs start h); advances = x.advances; committing = x.committing; uncrossed = x.uncrossed }
 
-pub committed_swapped : (f : Footprint) (r : Seen) (after : ℕ) (a : Told) (v : SeatView) (b : Budget) (w : SeatView) → is_idle v.seat.work ≡ true → f ≡ put_of r after → EndsOrIsLeft (task.Swap r after) v b a w → is_told_swapping (Some a) ≡ true → is_crossed a ≡ false
+pub committed_swapped : (f : Footprint) (r : Seen) (after : ℕ) (a : Told) (v : SeatView) (b : Budget) (w : SeatView) → is_idle v.seat.work ≡ true → f ≡ put_by_swap r after → EndsOrIsLeft (task.Swap r after) v b a w → is_told_swapping (Some a) ≡ true → is_told_crossed a ≡ false
     → AllCommitted f a v b w
 committed_swapped f r after a v b w idle is e said calm = record {
   commits = λ start h. by_swap r after a w is (comes start v b (task.Swap r after) a w h e) (crossed_or_ends a said calm);
@@ -99,7 +99,7 @@ committed_swapped f r after a v b w idle is e said calm = record {
   uncrossed = calm;
 }
 
-pub committed_crossed : (f : Footprint) (r : Seen) (after : ℕ) (x a : Told) (v : SeatView) (b : Budget) (u w : SeatView) → is_idle v.seat.work ≡ true → f ≡ put_of r after → EndsOrIsLeft (task.Swap r after) v b x u → is_crossed x ≡ true
+pub committed_crossed : (f : Footprint) (r : Seen) (after : ℕ) (x a : Told) (v : SeatView) (b : Budget) (u w : SeatView) → is_idle v.seat.work ≡ true → f ≡ put_by_swap r after → EndsOrIsLeft (task.Swap r after) v b x u → is_told_crossed x ≡ true
     → AllInstalled f a u b w → AllCommitted f a v b w
 committed_crossed f r after x a v b u w idle is first cross y = go (crossed_at x cross)
   where

@@ -23,7 +23,7 @@ use Rattle.kc_store.proofs.Fitting.{known_fits}
 use Rattle.kc_store.proofs.Gaining.{does_meant}
 use Rattle.kc_store.proofs.Standing.{halts, is_tried, ran_stands}
 use Rattle.kc_store.specs.Steps.{steps_made}
-use Rattle.kc_store.specs.Works.{Ends, LooksAt, MayRun, Runs, Stands, commits, is_told_committing, is_told_looking, is_told_swapping, looks, swaps}
+use Rattle.kc_store.specs.Works.{Ends, PeeksAt, MayRun, Runs, TaskStands, is_committing, is_told_committing, is_told_looking, is_told_swapping, is_looking, is_swapping}
 use Rattle.kc_store.specs.declared.budget.Budget.{Budget}
 use Rattle.kc_hang.specs.kc_table_moves.Views.{SeatView, Starts, Stepped, opening_at_seat, Ran}
 use Rattle.kc_hang.proofs.kc_table_laws.Halting.{halt_sends}
@@ -31,7 +31,7 @@ use Rattle.kc_hang.proofs.kc_table_laws.Keeping.{looks_saw}
 use Rattle.kc_hang.proofs.kc_table_laws.Running.{does_ran}
 use Rattle.kc_hang.proofs.kc_table_laws.Stopping.{free_ran, halted_ends}
 use Rattle.kc_hang.specs.kc_table_laws.Halts.{is_halted, may_halt, steps_left, was_halted}
-use Rattle.kc_hang.specs.kc_table_laws.Tasks.{Does}
+use Rattle.kc_hang.specs.kc_table_laws.Tasks.{DoesTask}
 use Rattle.kc_xt.specs.Peeks.{IsLook}
 use Rattle.kc_xt.specs.declared.peek.PeekBusy.{PeekBusy}
 
@@ -112,7 +112,7 @@ module _ (t : Task) (v u : SeatView) (e : is_tried t ≡ true) (idle : is_idle v
 pub looking_told : (v w : SeatView) (l : Loc) → MayRun v (task.Look l) w → is_idle w.seat.work ≡ true → is_told_looking w.seat.told ≡ true
 looking_told v w l r idle = go w.seat.work idle r.stands.in_task
   where
-    go : (x : Work) → is_idle x ≡ true → looks x w.seat.told ≡ true → is_told_looking w.seat.told ≡ true
+    go : (x : Work) → is_idle x ≡ true → is_looking x w.seat.told ≡ true → is_told_looking w.seat.told ≡ true
     go work.Idle i e = e
     go (work.Look y) i e = absurd (cc)
     go (work.Commit y) i e = absurd (cc)
@@ -120,10 +120,10 @@ looking_told v w l r idle = go w.seat.work idle r.stands.in_task
     go (work.Leave y) i e = absurd (cc)
     go (work.Swap y) i e = absurd (cc)
 
-pub committing_told : (v w : SeatView) (f : Footprint) (m : Mode) → Stands v (task.Commit f m) w → is_idle w.seat.work ≡ true → is_told_committing w.seat.told ≡ true
+pub committing_told : (v w : SeatView) (f : Footprint) (m : Mode) → TaskStands v (task.Commit f m) w → is_idle w.seat.work ≡ true → is_told_committing w.seat.told ≡ true
 committing_told v w f m s idle = go w.seat.work idle s.in_task
   where
-    go : (x : Work) → is_idle x ≡ true → commits x w.seat.told ≡ true → is_told_committing w.seat.told ≡ true
+    go : (x : Work) → is_idle x ≡ true → is_committing x w.seat.told ≡ true → is_told_committing w.seat.told ≡ true
     go work.Idle i e = e
     go (work.Look y) i e = absurd (cc)
     go (work.Commit y) i e = absurd (cc)
@@ -131,10 +131,10 @@ committing_told v w f m s idle = go w.seat.work idle s.in_task
     go (work.Leave y) i e = absurd (cc)
     go (work.Swap y) i e = absurd (cc)
 
-pub swapping_told : (v w : SeatView) (r : Seen) (after : ℕ) → Stands v (task.Swap r after) w → is_idle w.seat.work ≡ true → is_told_swapping w.seat.told ≡ true
+pub swapping_told : (v w : SeatView) (r : Seen) (after : ℕ) → TaskStands v (task.Swap r after) w → is_idle w.seat.work ≡ true → is_told_swapping w.seat.told ≡ true
 swapping_told v w r after s idle = go w.seat.work idle s.in_task
   where
-    go : (x : Work) → is_idle x ≡ true → swaps x w.seat.told ≡ true → is_told_swapping w.seat.told ≡ true
+    go : (x : Work) → is_idle x ≡ true → is_swapping x w.seat.told ≡ true → is_told_swapping w.seat.told ≡ true
     go work.Idle i e = e
     go (work.Look y) i e = absurd (cc)
     go (work.Commit y) i e = absurd (cc)
@@ -143,7 +143,7 @@ swapping_told v w r after s idle = go w.seat.work idle s.in_task
     go (work.Swap y) i e = absurd (cc)
 
 -- what a look was told has its location, and a version that has room
-pub is_look : (v w : SeatView) (l : Loc) (r : Seen) → l.0 < v.of.origin.locations → Does v (task.Look l) w → w.seat.told ≡ Some (told.Seen r) → IsLook l.0 r
+pub is_look : (v w : SeatView) (l : Loc) (r : Seen) → l.0 < v.of.origin.locations → DoesTask v (task.Look l) w → w.seat.told ≡ Some (told.Seen r) → IsLook l.0 r
 is_look v w l r below d says =
     let saw = looks_saw v w l r d says in
     let at : r.loc.0 ≡ l.0 = ap (λ (x : Loc). x.0) saw.of in
@@ -164,7 +164,7 @@ pub few_reads : (f : Footprint) (xs : List Line) → lines_of f ≡ xs → lengt
 few_reads f xs e few = let n = ap length (sym e) in let m = length-map f.reads.items (λ r. line_of f.puts.items r) in omega (arith, few, n, m)
 
 -- what a look gives
-pub look_of_ends : (v w : SeatView) (l : Loc) (b : Budget) (r : Result Seen PeekBusy) → l.0 < v.of.origin.locations → LooksAt l.0 v b r w → IfOk r (λ seen. IsLook l.0 seen)
+pub look_of_ends : (v w : SeatView) (l : Loc) (b : Budget) (r : Result Seen PeekBusy) → l.0 < v.of.origin.locations → PeeksAt l.0 v b r w → IfOk r (λ seen. IsLook l.0 seen)
 look_of_ends v w l b (Ok r) below (inl (h, e)) = is_look v w l r below (did_does v w (task.Look l) (told.Seen r) e.ran.did e.idle e.says (λ x. absurd (cc))) e.says
 look_of_ends v w l b (Ok r) below (inr (n, s, e)) = absurd (cc)
 look_of_ends v w l b (Err x) below e = tt

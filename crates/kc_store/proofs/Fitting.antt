@@ -4,7 +4,7 @@ use Rattle.std.specs.Prelude.{nat_lt}
 use Rattle.std.proofs.lemmas.Bool.Decides.{nat_tests}
 use Rattle.kc_hang.specs.kc_machine.Machine.{Opening, World, run}
 use Rattle.kc_hang.specs.kc_machine_traces.Claims.{history_at, stands_for}
-use Rattle.kc_hang.specs.kc_machine_traces.Histories.{IsKnown, none, ending, putting}
+use Rattle.kc_hang.specs.kc_machine_traces.Histories.{IsKnown, none, ending_store, putting}
 use Rattle.kc_hang.specs.kc_machine_traces.Traces.{first_store}
 use Rattle.kc_hang.proofs.kc_machine_history.Growing.{stood_since}
 use Rattle.kc_hang.proofs.kc_machine_traces.Runs.{words_in}
@@ -51,9 +51,9 @@ known_fits o es m r below k =
     let same : (stands_for (run o front).world ((run o front).world.word r.loc.0)).version ≡ r.version = ap (λ c. c.version) (says ∙ stood.3) in
     subst (λ n. n ≤ LAST_VERSION) same (stands_fit o (run o front).world ((run o front).world.word r.loc.0) range (range.words r.loc.0))
   where
-    lowest : (ending (first_store o) (history_at o es 0) r.loc.0).version ≤ r.version
+    lowest : (ending_store (first_store o) (history_at o es 0) r.loc.0).version ≤ r.version
     lowest =
         let h = known o es in
         let up = versions_rise (first_store o) [] (take k.0 h) r.loc.0 (none, λ l. (putting l (take k.0 h), refl)) in
-        let there : (ending (first_store o) (take k.0 h) r.loc.0).version ≡ r.version = ap (λ c. c.version) k.1 in
+        let there : (ending_store (first_store o) (take k.0 h) r.loc.0).version ≡ r.version = ap (λ c. c.version) k.1 in
         omega (arith, up, there)

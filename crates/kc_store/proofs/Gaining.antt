@@ -10,7 +10,7 @@ use Rattle.kc_hang.proofs.kc_machine_history.Places.{rises}
 use Rattle.kc_machine_steps.specs.declared.task.Task.{Task}
 use Rattle.kc_machine_steps.specs.declared.task.Task.TheVariants as task
 use Rattle.kc_machine_steps.specs.declared.task.Told.TheVariants as told
-use Rattle.kc_hang.specs.kc_machine_traces.Entries.{by}
+use Rattle.kc_hang.specs.kc_machine_traces.Entries.{placed_by}
 use Rattle.kc_hang.specs.kc_machine_traces.Outcomes.{GainsAsTold, GainsTheCall, IsEntryOf}
 use Rattle.kc_machine_words.specs.declared.words.Mode.{Mode}
 use Rattle.kc_model.proofs.Stores.{Contains-first}
@@ -24,13 +24,13 @@ use Rattle.kc_store.specs.Answers.{Gains, GainsNothing, WasOvertaken, own_entrie
 use Rattle.kc_hang.specs.kc_table_moves.Origins.{opening_of}
 use Rattle.kc_hang.specs.kc_table_moves.Views.{SeatView, knows, opening_at_seat}
 use Rattle.kc_hang.proofs.kc_table_laws.Keeping.{own_known}
-use Rattle.kc_hang.specs.kc_table_laws.Tasks.{Does, Keeps}
+use Rattle.kc_hang.specs.kc_table_laws.Tasks.{DoesTask, KeepsKnown}
 use Rattle.kc_hang.proofs.kc_table_views.Knowing.{whole}
 use Rattle.kc_hang.specs.kc_table_views.Known.{IsMeant, IsWhole, known}
 use Rattle.kc_hang.specs.kc_table_views.Tasks.{FailureTaught, SuccessTaught}
 
 -- what holds of the whole list that a seat knows
-pub does_meant : (v w : SeatView) (t : _) → Does v t w → IsMeant (opening_at_seat w) w.past
+pub does_meant : (v w : SeatView) (t : _) → DoesTask v t w → IsMeant (opening_at_seat w) w.past
 does_meant v w t d = subst (λ o. IsMeant o w.past) (sym (ap (λ z. opening_of z.origin) d.of)) (subst (IsMeant (opening_at_seat v)) (sym d.past) d.runs.meant)
 
 all_in : (P : Placed → Type 0) (h : History) (x : Placed) → All P h → Contains h x → P x
@@ -62,13 +62,13 @@ entry_is k n (task.Hang reads) x is = absurd is
 entry_is k n (task.Leave reads) x is = absurd is
 
 -- a task that was told it succeeded, and has its entry
-module _ (v c w : SeatView) (n : ℕ) (f : Footprint) (m : Mode) (t : Task) (keeps : Keeps v c) (none : own_entries c ≡ own_entries v) (d : Does c t w) (idle : is_idle w.seat.work ≡ true) (says : w.seat.told ≡ Some (told.Succeeded n))
+module _ (v c w : SeatView) (n : ℕ) (f : Footprint) (m : Mode) (t : Task) (keeps : KeepsKnown v c) (none : own_entries c ≡ own_entries v) (d : DoesTask c t w) (idle : is_idle w.seat.work ≡ true) (says : w.seat.told ≡ Some (told.Succeeded n))
     (taught : SuccessTaught c.number n f m (knows c) (knows w)) where
   abbrev k : ℕ
   k = c.number
 
-  gained : GainsTheCall k n t (own_entries c) (by k (knows w))
-  gained = subst (λ a. GainsAsTold k t a (own_entries c) (by k (knows w))) says (own_known c w t d idle)
+  gained : GainsTheCall k n t (own_entries c) (placed_by k (knows w))
+  gained = subst (λ a. GainsAsTold k t a (own_entries c) (placed_by k (knows w))) says (own_known c w t d idle)
 
   meant : IsMeant (opening_at_seat w) w.past
   meant = does_meant c w t d
@@ -79,7 +79,7 @@ module _ (v c w : SeatView) (n : ℕ) (f : Footprint) (m : Mode) (t : Task) (kee
   abbrev mine : Placed
   mine = placed_entry taught.place m k n f
 
-  in_own : Contains (by k (knows w)) gained.entry
+  in_own : Contains (placed_by k (knows w)) gained.entry
   in_own = subst (λ l. Contains l gained.entry) (sym gained.after) (Contains-append_right gained.front (gained.entry ∷ gained.back) gained.entry (Contains-first gained.entry gained.back))
 
   one : gained.entry ≡ mine
@@ -90,8 +90,8 @@ module _ (v c w : SeatView) (n : ℕ) (f : Footprint) (m : Mode) (t : Task) (kee
       let s : Some gained.entry ≡ Some mine = sym x.2 ∙ ap (slice_get (knows w)) e ∙ y.2 in
       cc
 
-  last : by k (knows w) ≡ own_entries c ++ mine ∷ []
-  last = last_one k n t (own_entries c) (by k (knows w)) taught.place m f gained one
+  last : placed_by k (knows w) ≡ own_entries c ++ mine ∷ []
+  last = last_one k n t (own_entries c) (placed_by k (knows w)) taught.place m f gained one
       (rises_filtered (λ (x : Placed). x.entry.caller == k) (knows w) (rises (opening_at_seat w) w.past))
       (all_from (λ (x : Placed). x.place < taught.place) (own_entries c) (knows c) (λ x i. in_filtered (λ (y : Placed). y.entry.caller == k) (knows c) x i) taught.behind)
 
@@ -104,7 +104,7 @@ module _ (v c w : SeatView) (n : ℕ) (f : Footprint) (m : Mode) (t : Task) (kee
       entry = subst (λ j. Contains (knows w) (placed_entry taught.place m j n f)) keeps.number taught.entry;
       behind = all_from (λ (x : Placed). x.place < taught.place) (knows v) (knows c) (λ x i. grows_in (knows v) (knows c) x keeps.grows i) taught.behind;
     };
-    own = ap (λ j. by j (knows w)) d.number ∙ last ∙ (λ i. none i ++ placed_entry taught.place m (keeps.number i) n f ∷ []);
+    own = ap (λ j. placed_by j (knows w)) d.number ∙ last ∙ (λ i. none i ++ placed_entry taught.place m (keeps.number i) n f ∷ []);
   }
 
 -- a task that was told it failed at a read

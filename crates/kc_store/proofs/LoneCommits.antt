@@ -4,7 +4,7 @@ use Rattle.std.proofs.Math.Seq.{take-length}
 use Rattle.kc_hang.specs.kc_machine.Schedules.{IsWellMadeTask}
 use Rattle.kc_hang.specs.kc_machine.Seats.{is_idle}
 use Rattle.kc_hang.specs.kc_machine_progress.Stretches.{stretch}
-use Rattle.kc_hang.specs.kc_machine_traces.Histories.{IsKnown, ending}
+use Rattle.kc_hang.specs.kc_machine_traces.Histories.{IsKnown, ending_store}
 use Rattle.kc_hang.specs.kc_machine_traces.Traces.{first_store}
 use Rattle.kc_machine_steps.specs.declared.task.Task.TheVariants as task
 use Rattle.kc_machine_steps.specs.declared.task.Told.TheVariants as told
@@ -19,7 +19,7 @@ use Rattle.kc_store.specs.Lone.{CommitsAlone, is_worn}
 use Rattle.kc_store.specs.Steps.{steps_made}
 use Rattle.kc_hang.specs.kc_table_moves.Views.{SeatView, Stepped, knows, opening_at_seat, Ran, begun_at, further}
 use Rattle.kc_table_laws.proofs.Ending.{ends_soon, ends_within, made_or_worn}
-use Rattle.kc_table_laws.specs.Sole.{HasNoLife, IsMadeOrWorn, IsSole, Rests, count, standing}
+use Rattle.kc_table_laws.specs.Sole.{HasNoLife, IsMadeOrWorn, IsSole, TableRests, count, standing}
 
 pub ran_on : (v u w : SeatView) (f : Footprint) → Ran v (task.Commit f All) u → is_idle u.seat.work ≡ false → Stepped u w → Ran v (task.Commit f All) w
 ran_on v u w f r busy s = record { steps = further u w r.steps busy s; shown = s.began }
@@ -51,10 +51,10 @@ module _ (v w : SeatView) (f : Footprint) (r : Ran v (task.Commit f All) w) (sol
       succeeds e (inl (m, t, z)) = ((m, t), z)
       succeeds e (inr (t, z, x)) = let q : true ≡ false = sym e ∙ says ∙ ap (λ y. not (is_worn y)) t in absurd (cc)
 
-      wears : b ≡ false → IsMadeOrWorn v w → HasNoLife v × Rests v w
+      wears : b ≡ false → IsMadeOrWorn v w → HasNoLife v × TableRests v w
       wears e (inl (m, t, z)) = let q : false ≡ true = sym e ∙ says ∙ ap (λ y. not (is_worn y)) t in absurd (cc)
       wears e (inr (t, z, x)) = (z, x)
 
 -- what stands is known
 pub stands_known : (v : SeatView) (f : Footprint) → Finds f (standing v) → (r : Seen) → Reads f r → IsKnown (first_store (opening_at_seat v)) (knows v) r
-stands_known v f finds r c = (length (knows v), ap (λ h. ending (first_store (opening_at_seat v)) h r.loc.0) (take-length (knows v)) ∙ finds r c)
+stands_known v f finds r c = (length (knows v), ap (λ h. ending_store (first_store (opening_at_seat v)) h r.loc.0) (take-length (knows v)) ∙ finds r c)

@@ -18,7 +18,7 @@ use Rattle.kc_store.specs.Lone.{AllAlone, LooksAlone, Passes}
 use Rattle.kc_store.specs.LoneLooks.{SoleGives}
 use Rattle.kc_store.specs.Steps.{steps_made}
 use Rattle.kc_store.specs.declared.sole_peek.SolePeek.{SolePeek}
-use Rattle.kc_hang.specs.kc_table_moves.Views.{SeatView, seen_at, Ran, StepsTo, further, here}
+use Rattle.kc_hang.specs.kc_table_moves.Views.{SeatView, seen_cell_at, Ran, StepsTo, further, here}
 use Rattle.kc_table_laws.proofs.Telling.{tells}
 use Rattle.kc_table_laws.specs.Sole.{IsSole, TellsWhatStands, count, standing}
 use Rattle.kc_xt.proofs.Rooms.{length-with_looks}
@@ -47,7 +47,7 @@ module _ (v w : SeatView) (l : Loc) (sole : IsSole v) (idle : is_idle v.seat.wor
   pub looks_alone : (x : Seen) → w.seat.told ≡ Some (told.Seen x) → LooksAlone l.0 v x w
   looks_alone x says =
       let y = runs (task.Look l) v w refl idle low r in
-      let e : Some (told.Seen x) ≡ Some (told.Seen (seen_at l.0 (standing v l.0))) = sym says ∙ told_so.told in
+      let e : Some (told.Seen x) ≡ Some (told.Seen (seen_cell_at l.0 (standing v l.0))) = sym says ∙ told_so.told in
       let n = steps_counted _ w r.steps in
       let one = told_so.one in
       record {

@@ -11,8 +11,8 @@ use Rattle.kc_model.specs.declared.footprint.Seen.{Seen}
 use Rattle.kc_store.proofs.Counting.{no_more_then}
 use Rattle.kc_store.proofs.Doing.{did_keeps}
 use Rattle.kc_store.specs.Peeks.{PeekGives}
-use Rattle.kc_store.specs.Tries.{Comes, IsNotBegun, Sees, WasTold, look_of}
-use Rattle.kc_store.specs.Works.{Advances, AllLooked, Ends, EndsOrIsLeft, IsFrom, IsLeft, has_steps, told_by}
+use Rattle.kc_store.specs.Tries.{TaskComes, IsNotBegun, Sees, WasTold, look_of}
+use Rattle.kc_store.specs.Works.{Advances, AllLooked, Ends, EndsOrIsLeft, IsFrom, IsLeft, has_steps, peek_told}
 use Rattle.kc_store.specs.declared.budget.Budget.{Budget}
 use Rattle.kc_store.specs.declared.looks.StorePeek.{StorePeek}
 use Rattle.kc_hang.specs.kc_table_moves.Views.{SeatView}
@@ -49,7 +49,7 @@ not_begun start v b a w h (none, halted, stays) =
     let n = h.no_more in
     record { spent = omega (arith, le, p, q, c, n); halted = halted; stays = stays }
 
-pub comes : (start v : SeatView) (b : Budget) (t : Task) (a : Told) (w : SeatView) → IsFrom start b v → EndsOrIsLeft t v b a w → Comes start v t a w
+pub comes : (start v : SeatView) (b : Budget) (t : Task) (a : Told) (w : SeatView) → IsFrom start b v → EndsOrIsLeft t v b a w → TaskComes start v t a w
 comes start v b t a w h (inl (has, e)) = inl (was_told start v b t a w h has e)
 comes start v b t a w h (inr l) = inr (not_begun start v b a w h l)
 
@@ -88,7 +88,7 @@ record Went (p q : StorePeek) : Type 0 where
   advances : Advances p.seat.now q.seat.now
 
 went_one : (p : StorePeek) (l : ℕ) (r : Result Seen PeekBusy) (q : StorePeek) → PeekGives p l r q → Went p q
-went_one p l r q g = record { name = g.seat; budget = g.budget; advances = ends_advance p.seat.now p.budget (look_of l) (told_by r) q.seat.now p.idle g.looks }
+went_one p l r q g = record { name = g.seat; budget = g.budget; advances = ends_advance p.seat.now p.budget (look_of l) (peek_told r) q.seat.now p.idle g.looks }
 
 went_all : (p : StorePeek) (es : List Seen) (q : StorePeek) → Looks PeekGives p es q → Went p q
 went_all p [] q e = subst (Went p) e (record { name = refl; budget = refl; advances = advances_same p.seat.now p.idle })

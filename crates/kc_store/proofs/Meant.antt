@@ -9,8 +9,8 @@ use Rattle.kc_machine_words.specs.declared.words.Mode.TheVariants as mode
 use Rattle.kc_model.specs.declared.footprint.Footprint.{Footprint}
 use Rattle.kc_model.specs.declared.footprint.Seen.{Seen}
 use Rattle.kc_store.proofs.Gaining.{does_meant}
-use Rattle.kc_store.specs.Steps.{IsSpent, busy_bound}
-use Rattle.kc_store.specs.Tries.{Comes, Commits, CommitsAfter, Did, Installs, Sees, Tries, WasTold, again, behind_swap, by_install, by_swap, look_of, once}
+use Rattle.kc_store.specs.Steps.{StepsAreSpent, busy_bound}
+use Rattle.kc_store.specs.Tries.{TaskComes, SwapsOrInstalls, CommitsAfter, Did, Installs, Sees, Tries, WasTold, again, behind_swap, by_install, by_swap, look_of, once}
 use Rattle.kc_hang.specs.kc_table_moves.Views.{SeatView, opening_at_seat}
 use Rattle.kc_hang.specs.kc_table_views.Known.{IsMeant}
 use Rattle.kc_xt.specs.Commit.{LooksIn}
@@ -37,12 +37,12 @@ was_done start v t a w s = record { from = v; task = t; did = s.did; idle = s.id
 some_left : (n : ℕ) → 0 < busy_bound n
 some_left n = let a : (n + 1) * (n + 1) ≡ n * n + 2 * n + 1 = grind arith in omega (arith, a)
 
-unspent : (v : SeatView) → IsSpent v v → ⊥
+unspent : (v : SeatView) → StepsAreSpent v v → ⊥
 unspent v s = let a = some_left v.of.origin.callers in omega (arith, s, a)
 
-come_done : (start v : SeatView) (t : Task) (a : Told) (w : SeatView) → StartsOrHasDone start v → Comes start v t a w → HasDone w
+come_done : (start v : SeatView) (t : Task) (a : Told) (w : SeatView) → StartsOrHasDone start v → TaskComes start v t a w → HasDone w
 come_done start v t a w from (inl s) = was_done start v t a w s
-come_done start v t a w (inl e) (inr n) = absurd (unspent start (subst (IsSpent start) e n.spent))
+come_done start v t a w (inl e) (inr n) = absurd (unspent start (subst (StepsAreSpent start) e n.spent))
 come_done start v t a w (inr d) (inr n) = subst HasDone (sym n.stays) d
 
 looks_done : (start v : SeatView) (es : List Seen) (w : SeatView) → StartsOrHasDone start v → Looks (Sees start) v es w → StartsOrHasDone start w
@@ -53,7 +53,7 @@ installs_done : (start v : SeatView) (f : Footprint) (a : Told) (w : SeatView) �
 installs_done start v f a w from (once b x was e) = come_done start v (task.Commit f mode.Light) a w from was
 installs_done start v f a w from (again i u b x first was) = come_done start u (task.Commit f mode.All) a w (inr (was_done start v (task.Commit f mode.Light) (told.Crossed i) u first)) was
 
-commits_done : (start v : SeatView) (f : Footprint) (a : Told) (w : SeatView) → StartsOrHasDone start v → Commits start f v a w → HasDone w
+commits_done : (start v : SeatView) (f : Footprint) (a : Told) (w : SeatView) → StartsOrHasDone start v → SwapsOrInstalls start f v a w → HasDone w
 commits_done start v f a w from (by_install b x at_once was) = installs_done start v f a w from was
 commits_done start v f a w from (behind_swap r after i u b x is first was) = installs_done start u f a w (inr (was_done start v (task.Swap r after) (told.Crossed i) u first)) was
 commits_done start v f a w from (by_swap r after b x is was ends) = come_done start v (task.Swap r after) a w from was

@@ -2,7 +2,7 @@
 use Rattle.std.proofs.Common.{◌≡◌, ◌≤◌, Bool, ℕ, ◌+◌, take, refl, sym, ap, ◌∙◌, subst}
 use Rattle.std.specs.Prelude.{Err, Ok, Result}
 use Rattle.std.proofs.lemmas.List.{take-map}
-use Rattle.kc_hang.specs.kc_machine_traces.Histories.{Placed, ending, made}
+use Rattle.kc_hang.specs.kc_machine_traces.Histories.{Placed, ending_store, made}
 use Rattle.kc_hang.specs.kc_machine_traces.Traces.{first_store}
 use Rattle.kc_hang.specs.kc_table_moves.Views.{SeatView, knows, opening_at_seat}
 use Rattle.kc_machine_steps.specs.declared.task.Told.TheVariants as told
@@ -19,9 +19,9 @@ use Rattle.kc_store.specs.Reads.{Stood}
 use Rattle.kc_store.specs.Rests.{Rests}
 use Rattle.kc_store.specs.Tries.{Sees, look_of}
 use Rattle.kc_store.specs.Views.{caller_view}
-use Rattle.kc_store.specs.Works.{IsFrom, LooksAt, StaysWorn, told_by}
+use Rattle.kc_store.specs.Works.{IsFrom, PeeksAt, StaysWorn, peek_told}
 use Rattle.kc_store.specs.declared.budget.Budget.{Budget}
-use Rattle.kc_hang.specs.kc_table_laws.Tasks.{Keeps}
+use Rattle.kc_hang.specs.kc_table_laws.Tasks.{KeepsKnown}
 use Rattle.kc_xt.specs.declared.peek.PeekBusy.{PeekBusy}
 
 pub stood : (worn : Bool) (v w : SeatView) (l : ℕ) (r : Seen) → Sees v v l (Ok r) w → Stood l (caller_view worn v) r (caller_view worn w)
@@ -33,14 +33,14 @@ stood worn v w l r s =
     record {
       at = at;
       front = front;
-      makes = ap (λ es. made opens es l) (take-map (λ (y : Placed). y.entry) front (knows w)) ∙ ap (λ k. ending opens (take front (knows w)) k) (sym at) ∙ x.known.1;
-      no_older = subst (λ k. (ending (first_store (opening_at_seat v)) (knows v) k).version ≤ r.version) at x.no_lower;
+      makes = ap (λ es. made opens es l) (take-map (λ (y : Placed). y.entry) front (knows w)) ∙ ap (λ k. ending_store opens (take front (knows w)) k) (sym at) ∙ x.known.1;
+      no_older = subst (λ k. (ending_store (first_store (opening_at_seat v)) (knows v) k).version ≤ r.version) at x.no_lower;
     }
 
 pub read_busy : (v w : SeatView) (l steps : ℕ) (e : PeekBusy) → Sees v v l (Err e) w → v.seat.made + steps ≡ w.seat.made → IsBusy v steps w
 read_busy v w l steps e s counts = (counts, come_spent v v (look_of l) told.Halted w s refl)
 
-pub sees : (v : SeatView) (b : Budget) (l : ℕ) (r : Result Seen PeekBusy) (w : SeatView) → IsFrom v b v → LooksAt l v b r w → Sees v v l r w
+pub sees : (v : SeatView) (b : Budget) (l : ℕ) (r : Result Seen PeekBusy) (w : SeatView) → IsFrom v b v → PeeksAt l v b r w → Sees v v l r w
 sees v b l (Ok r) w h g = told_so v v b (look_of l) (told.Seen r) w (λ e. absurd (cc)) h g
 sees v b l (Err e) w h g = comes v v b (look_of l) told.Halted w h g
 
@@ -51,16 +51,16 @@ worn_on v w l (Err e) s = come_worn v v (look_of l) told.Halted w s
 -- what a read leaves of its caller, whatever it answers
 pub record Left (worn : Bool) (v w : SeatView) : Type 0 where
   pub learns : OnlyLearns (caller_view worn v) (caller_view worn w)
-  pub keeps : Keeps v w
+  pub keeps : KeepsKnown v w
   pub rests : Rests w
   pub worn_too : StaysWorn v w
   pub counts : v.seat.made ≤ w.seat.made
 
-pub left : (worn : Bool) (v : SeatView) (b : Budget) (l : ℕ) (r : Result Seen PeekBusy) (w : SeatView) → Rests v → IsFrom v b v → LooksAt l v b r w → Left worn v w
+pub left : (worn : Bool) (v : SeatView) (b : Budget) (l : ℕ) (r : Result Seen PeekBusy) (w : SeatView) → Rests v → IsFrom v b v → PeeksAt l v b r w → Left worn v w
 left worn v b l r w rest h g =
     let s = sees v b l r w h g in
     let k = look_keeps v v w l r s in
-    let a = ends_advance v b (look_of l) (told_by r) w rest.idle g in
+    let a = ends_advance v b (look_of l) (peek_told r) w rest.idle g in
     record {
       learns = only_learns worn v w k (look_gains_none v v w l r s);
       keeps = k;

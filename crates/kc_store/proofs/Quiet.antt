@@ -11,7 +11,7 @@ use Rattle.kc_hang.specs.kc_machine.declared.hang.HangStep.TheVariants as hang
 use Rattle.kc_hang.specs.kc_machine.declared.seat.Seat.{Seat}
 use Rattle.kc_hang.specs.kc_machine_invariants.Holds.{own_hold}
 use Rattle.kc_hang.specs.kc_machine_invariants.Holds.Hold.{Proper}
-use Rattle.kc_hang.specs.kc_machine_invariants.Stands.{hangs, resting, stand, works}
+use Rattle.kc_hang.specs.kc_machine_invariants.Stands.{stand_hangs, resting, stand, works}
 use Rattle.kc_hang.proofs.kc_machine_history.Decisions.{moves_by_decision}
 use Rattle.kc_hang.specs.kc_machine_history.Decisions.{MovesByDecision}
 use Rattle.kc_machine_steps.specs.declared.task.Event.{Event}
@@ -19,7 +19,7 @@ use Rattle.kc_machine_steps.specs.declared.task.Event.TheVariants.{Step}
 use Rattle.kc_machine_steps.specs.declared.task.Task.TheVariants as task
 use Rattle.kc_hang.proofs.kc_machine_traces.Entries.{by_inserted}
 use Rattle.kc_hang.proofs.kc_machine_traces.Others.{history_kept, others_leave}
-use Rattle.kc_hang.specs.kc_machine_traces.Entries.{by}
+use Rattle.kc_hang.specs.kc_machine_traces.Entries.{placed_by}
 use Rattle.kc_model.specs.declared.footprint.Seen.{Seen}
 use Rattle.kc_store.specs.Answers.{own_entries}
 use Rattle.kc_store.specs.Hanging.{IsUnowned}
@@ -60,7 +60,7 @@ owns_no (work.Swap x) e = absurd (cc)
 no_life : (s : Seat) (d g : ℕ) → waits s.work ≡ true → own_hold (stand s).own ≡ Proper d g → ⊥
 no_life s d g = go s.work
   where
-    hanging : (reads : List Seen) (step : HangStep) → own_hold (hangs (resting s) reads step).own ≡ Proper d g → ⊥
+    hanging : (reads : List Seen) (step : HangStep) → own_hold (stand_hangs (resting s) reads step).own ≡ Proper d g → ⊥
     hanging reads (hang.Set k) q = absurd (cc)
     hanging reads (hang.Look k step) q = absurd (cc)
     hanging reads (hang.Clear k n) q = absurd (cc)
@@ -75,19 +75,19 @@ no_life s d g = go s.work
 
 -- ---- one step of a seat that hangs
 
-no_entry : (o : Opening) (es : List Event) (k : ℕ) → waits ((run o es).seats k).work ≡ true → by k (known o (es ++ Step k ∷ [])) ≡ by k (known o es)
+no_entry : (o : Opening) (es : List Event) (k : ℕ) → waits ((run o es).seats k).work ≡ true → placed_by k (known o (es ++ Step k ∷ [])) ≡ placed_by k (known o es)
 no_entry o es k e = go (moves_by_decision o es (Step k))
   where
     not_swap : (x : Work) (y : Work) → waits x ≡ true → waits y ≡ false → x ≡ y → ⊥
     not_swap x y p q r = let z : true ≡ false = sym p ∙ ap waits r ∙ q in absurd (cc)
 
-    go : MovesByDecision o es (Step k) → by k (known o (es ++ Step k ∷ [])) ≡ by k (known o es)
-    go (inl same) = ap (by k) same
-    go (inr (inl (x, d, is))) = ap (by k) is ∙ by_inserted k x (known o es) (λ q. no_life ((run o es).seats k) d.handle.descriptor d.handle.generation e (subst (λ j. own_hold (stand ((run o es).seats j)).own ≡ Proper d.handle.descriptor d.handle.generation) q d.owns))
-    go (inr (inr (x, d, is))) = ap (by k) is ∙ by_inserted k x (known o es) (λ q. not_swap ((run o es).seats k).work _ e refl d.works)
+    go : MovesByDecision o es (Step k) → placed_by k (known o (es ++ Step k ∷ [])) ≡ placed_by k (known o es)
+    go (inl same) = ap (placed_by k) same
+    go (inr (inl (x, d, is))) = ap (placed_by k) is ∙ by_inserted k x (known o es) (λ q. no_life ((run o es).seats k) d.handle.descriptor d.handle.generation e (subst (λ j. own_hold (stand ((run o es).seats j)).own ≡ Proper d.handle.descriptor d.handle.generation) q d.owns))
+    go (inr (inr (x, d, is))) = ap (placed_by k) is ∙ by_inserted k x (known o es) (λ q. not_swap ((run o es).seats k).work _ e refl d.works)
 
-pub own_at : (x v : SeatView) → x.of ≡ v.of → x.number ≡ v.number → own_entries x ≡ by v.number (known (opening_at_seat v) x.past)
-own_at x v of number = (λ i. by (number i) (known (opening_of (ap (λ z. z.origin) of i)) x.past))
+pub own_at : (x v : SeatView) → x.of ≡ v.of → x.number ≡ v.number → own_entries x ≡ placed_by v.number (known (opening_at_seat v) x.past)
+own_at x v of number = (λ i. placed_by (number i) (known (opening_of (ap (λ z. z.origin) of i)) x.past))
 
 pub step_gains_none : (u w : SeatView) → IsUnowned u → waits u.seat.work ≡ true → Stepped u w → own_entries w ≡ own_entries u
 step_gains_none u w none e s =
@@ -96,9 +96,9 @@ step_gains_none u w none e s =
     let x = s.steps in
     let met = u.past ++ x.others in
     let at : (run o (met ++ x.pending)).seats k ≡ u.seat = waits_seat o met x.pending k x.within x.pends.waits ∙ ap (λ y. applied y x.pending) (others_leave o u.past x.others k x.none) ∙ sym x.pends.stands in
-    own_at w u s.of s.number ∙ ap (λ es. by k (known o es)) x.is
+    own_at w u s.of s.number ∙ ap (λ es. placed_by k (known o es)) x.is
     ∙ no_entry o (met ++ x.pending) k (ap (λ (y : Seat). waits y.work) at ∙ e)
-    ∙ ap (by k) (history_kept o met x.pending (waits_no_step k x.pending x.pends.waits))
+    ∙ ap (placed_by k) (history_kept o met x.pending (waits_no_step k x.pending x.pends.waits))
     ∙ gains_none o u.past x.others k none x.none
 
 -- ---- who owned nothing at its last step
@@ -135,4 +135,4 @@ learns_unowned v w none l =
     (λ i. is_some (own_of ((run (opening_of (ap (λ z. z.origin) l.of i)) w.past).seats (l.number i)))) ∙ ap (λ (s : Seat). is_some (own_of s)) (learns_at v w l) ∙ none
 
 pub learns_none : (v w : SeatView) → is_some (own_of v.seat) ≡ false → Learns v w → own_entries w ≡ own_entries v
-learns_none v w none l = ap (λ k. by k (knows w)) l.number ∙ l.own none
+learns_none v w none l = ap (λ k. placed_by k (knows w)) l.number ∙ l.own none

@@ -4,7 +4,7 @@ use Rattle.std.specs.Prelude.{Contains}
 use Rattle.std.proofs.lemmas.List.{map-append}
 use Rattle.kc_hang.specs.kc_machine_traces.Histories.{History, IsAmong, Placed, entries}
 use Rattle.kc_hang.specs.kc_machine_traces.Histories.{none as none_among, here as here_among, later as later_among}
-use Rattle.kc_hang.specs.kc_machine_traces.Entries.{by}
+use Rattle.kc_hang.specs.kc_machine_traces.Entries.{placed_by}
 use Rattle.kc_model.proofs.Stores.{Contains-first, Contains-later}
 use Rattle.kc_model.specs.Footprint.{IsBelow}
 use Rattle.kc_model.specs.declared.footprint.Entry.{Entry}
@@ -26,7 +26,7 @@ use Rattle.kc_store.specs.declared.verdict.Answered.TheVariants as answered
 use Rattle.kc_store.specs.declared.verdict.Verdict.{Verdict}
 use Rattle.kc_store.specs.declared.verdict.Verdict.TheVariants as verdict
 use Rattle.kc_hang.specs.kc_table_moves.Views.{SeatView, knows}
-use Rattle.kc_hang.specs.kc_table_laws.Tasks.{Keeps}
+use Rattle.kc_hang.specs.kc_table_laws.Tasks.{KeepsKnown}
 use Rattle.kc_xt.specs.Meaning.{Meaning}
 
 -- ---- lists of entries
@@ -58,9 +58,9 @@ either_way : (b : Bool) (x : Placed) (h : History) (es : List Entry) → es ≡ 
 either_way true x h es e = ap (λ (l : List Entry). x.entry ∷ l) e
 either_way false x h es e = e
 
-pub entries_by : (k : ℕ) (h : History) → entries_of k (entries h) ≡ entries (by k h)
+pub entries_by : (k : ℕ) (h : History) → entries_of k (entries h) ≡ entries (placed_by k h)
 entries_by k [] = refl
-entries_by k (x ∷ h) = either_way (x.entry.caller == k) x (by k h) (entries_of k (entries h)) (entries_by k h)
+entries_by k (x ∷ h) = either_way (x.entry.caller == k) x (placed_by k h) (entries_of k (entries h)) (entries_by k h)
 
 -- ---- what is known
 
@@ -69,10 +69,10 @@ pub still_told : (answer before now : Bool) → now ≡ (answer || before) → b
 still_told true before now e q = e
 still_told false before now e q = e ∙ q
 
-pub remembers : (before now : Bool) (v w : SeatView) → (before ≡ true → now ≡ true) → Keeps v w → Remembers (caller_view before v) (caller_view now w)
+pub remembers : (before now : Bool) (v w : SeatView) → (before ≡ true → now ≡ true) → KeepsKnown v w → Remembers (caller_view before v) (caller_view now w)
 remembers before now v w told k = record { of = ap store_view k.of; number = k.number; known = entries_within k.grows.0; worn = told }
 
-pub only_learns : (worn : Bool) (v w : SeatView) → Keeps v w → own_entries w ≡ own_entries v → OnlyLearns (caller_view worn v) (caller_view worn w)
+pub only_learns : (worn : Bool) (v w : SeatView) → KeepsKnown v w → own_entries w ≡ own_entries v → OnlyLearns (caller_view worn v) (caller_view worn w)
 only_learns worn v w k own = record { remembers = remembers worn worn v w (λ q. q) k; own = ap entries own; worn = refl }
 
 pub remembers_on : (c d e : CallerView) → Remembers c d → Remembers d e → Remembers c e

@@ -13,21 +13,21 @@ use Rattle.kc_store.proofs.Among.{first_or_later, grows_put, nothing_in}
 use Rattle.kc_store.proofs.Coming.{come_gains}
 use Rattle.kc_store.proofs.Doing.{did_does, did_gains, did_keeps}
 use Rattle.kc_store.specs.Answers.{own_entries}
-use Rattle.kc_store.specs.Tries.{Comes, Sees, look_of}
+use Rattle.kc_store.specs.Tries.{TaskComes, Sees, look_of}
 use Rattle.kc_store.specs.Works.{EndsOrIsLeft}
 use Rattle.kc_store.specs.declared.budget.Budget.{Budget}
 use Rattle.kc_hang.specs.kc_table_moves.Views.{SeatView, knows, opening_at_seat}
 use Rattle.kc_hang.proofs.kc_table_laws.Keeping.{looks_saw, put_past}
-use Rattle.kc_hang.specs.kc_table_laws.Tasks.{Does, Keeps, Saw}
+use Rattle.kc_hang.specs.kc_table_laws.Tasks.{DoesTask, KeepsKnown, Saw}
 use Rattle.kc_xt.specs.Peeks.{Looks}
 use Rattle.kc_xt.specs.declared.peek.PeekBusy.{PeekBusy}
 
 -- ---- keeping
 
-pub keeps_same : (v : SeatView) → Keeps v v
+pub keeps_same : (v : SeatView) → KeepsKnown v v
 keeps_same v = record { of = refl; number = refl; grows = grows_same (knows v); reads = λ r k. k; versions = λ l. omega arith }
 
-pub keeps_then : (u v w : SeatView) → Keeps u v → Keeps v w → Keeps u w
+pub keeps_then : (u v w : SeatView) → KeepsKnown u v → KeepsKnown v w → KeepsKnown u w
 keeps_then u v w a b = record {
   of = b.of ∙ a.of;
   number = b.number ∙ a.number;
@@ -36,23 +36,23 @@ keeps_then u v w a b = record {
   versions = λ l. let x = a.versions l in let y = b.versions l in omega (arith, x, y);
 }
 
-pub come_keeps : (start v : SeatView) (t : Task) (a : Told) (w : SeatView) → Comes start v t a w → Keeps v w
+pub come_keeps : (start v : SeatView) (t : Task) (a : Told) (w : SeatView) → TaskComes start v t a w → KeepsKnown v w
 come_keeps start v t a w (inl s) = did_keeps v w t s.did
-come_keeps start v t a w (inr n) = subst (Keeps v) (sym n.stays) (keeps_same v)
+come_keeps start v t a w (inr n) = subst (KeepsKnown v) (sym n.stays) (keeps_same v)
 
-pub ended_keeps : (v : SeatView) (b : Budget) (t : Task) (a : Told) (w : SeatView) → EndsOrIsLeft t v b a w → Keeps v w
+pub ended_keeps : (v : SeatView) (b : Budget) (t : Task) (a : Told) (w : SeatView) → EndsOrIsLeft t v b a w → KeepsKnown v w
 ended_keeps v b t a w (inl (has, e)) = did_keeps v w t e.ran.did
-ended_keeps v b t a w (inr (none, halted, stays)) = subst (Keeps v) (sym stays) (keeps_same v)
+ended_keeps v b t a w (inr (none, halted, stays)) = subst (KeepsKnown v) (sym stays) (keeps_same v)
 
 -- ---- one look
 
-pub look_does : (start v w : SeatView) (l : ℕ) (r : Seen) → Sees start v l (Ok r) w → Does v (look_of l) w
+pub look_does : (start v w : SeatView) (l : ℕ) (r : Seen) → Sees start v l (Ok r) w → DoesTask v (look_of l) w
 look_does start v w l r s = did_does v w (look_of l) (told.Seen r) s.did s.idle s.says (λ e. absurd (cc))
 
 pub look_saw : (start v w : SeatView) (l : ℕ) (r : Seen) → Sees start v l (Ok r) w → Saw v (record { 0 = l }) r w
 look_saw start v w l r s = looks_saw v w (record { 0 = l }) r (look_does start v w l r s) s.says
 
-pub look_keeps : (start v w : SeatView) (l : ℕ) (r : Result Seen PeekBusy) → Sees start v l r w → Keeps v w
+pub look_keeps : (start v w : SeatView) (l : ℕ) (r : Result Seen PeekBusy) → Sees start v l r w → KeepsKnown v w
 look_keeps start v w l (Ok r) s = did_keeps v w (look_of l) s.did
 look_keeps start v w l (Err b) s = come_keeps start v (look_of l) told.Halted w s
 
@@ -70,8 +70,8 @@ look_unput start v w l r s put =
 
 -- ---- all looks
 
-pub looks_keep : (start v : SeatView) (es : List Seen) (w : SeatView) → Looks (Sees start) v es w → Keeps v w
-looks_keep start v [] w e = subst (Keeps v) e (keeps_same v)
+pub looks_keep : (start v : SeatView) (es : List Seen) (w : SeatView) → Looks (Sees start) v es w → KeepsKnown v w
+looks_keep start v [] w e = subst (KeepsKnown v) e (keeps_same v)
 looks_keep start v (r ∷ es) w (b, s, rest) = keeps_then v b w (look_keeps start v b r.loc.0 (Ok r) s) (looks_keep start b es w rest)
 
 pub looks_gain_none : (start v : SeatView) (es : List Seen) (w : SeatView) → Looks (Sees start) v es w → own_entries w ≡ own_entries v
@@ -87,7 +87,7 @@ pub looks_fresh : (start v : SeatView) (es : List Seen) (w : SeatView) (r : Seen
 looks_fresh start v [] w r e c = nothing_in r c
 looks_fresh start v (x ∷ es) w r (b, s, rest) c = go (first_or_later x es r c) (looks_fresh start b es w r rest)
   where
-    keeps : Keeps v b
+    keeps : KeepsKnown v b
     keeps = look_keeps start v b x.loc.0 (Ok x) s
 
     go : (x ≡ r) ⊎ Contains es r → (Contains es r → Fresh b w r) → Fresh v w r

@@ -24,7 +24,7 @@ use Rattle.kc_store.proofs.ReadLooks.{was_looked_at}
 use Rattle.kc_store.proofs.Seeing.{Fresh, come_keeps, keeps_then, look_gains_none, look_keeps, looks_fresh, looks_gain_none, looks_keep}
 use Rattle.kc_store.specs.Answers.{Gains, GainsNothing, IsBusy, Settles, WasOvertaken, own_entries, placed_entry}
 use Rattle.kc_store.specs.Steps.{busy_bound}
-use Rattle.kc_store.specs.Tries.{Comes, Commits, CommitsAfter, Installs, once, again, bare, behind_swap, by_install, by_swap, Sees, Tries, WasTold, is_crossed, look_of, swap_ends}
+use Rattle.kc_store.specs.Tries.{TaskComes, SwapsOrInstalls, CommitsAfter, Installs, once, again, bare_footprint, behind_swap, by_install, by_swap, Sees, Tries, WasTold, is_told_crossed, look_of, swap_ends}
 use Rattle.kc_store.specs.Verdicts.{entered, fate_by, is_final, is_worn_by, is_worn_pool, left_of, lost_at, stays_worn, verdict_as, verdict_of}
 use Rattle.kc_store.specs.declared.verdict.Fate.{Fate}
 use Rattle.kc_store.specs.declared.verdict.Fate.TheVariants as fate
@@ -39,7 +39,7 @@ use Rattle.kc_hang.specs.kc_table_moves.Views.{SeatView, TableView, knows, openi
 use Rattle.kc_hang.proofs.kc_table_laws.Causing.{worn_found}
 use Rattle.kc_hang.proofs.kc_table_laws.Keeping.{failure_known, success_known, swap_failure_known, swap_success_known}
 use Rattle.kc_hang.specs.kc_table_views.Tasks.{FailureTaught, SuccessTaught}
-use Rattle.kc_hang.specs.kc_table_laws.Tasks.{Does, Keeps}
+use Rattle.kc_hang.specs.kc_table_laws.Tasks.{DoesTask, KeepsKnown}
 use Rattle.kc_xt.specs.Commit.{Came, Looked, LooksIn, PutsWhereDone, tried_of}
 use Rattle.kc_xt.specs.Meaning.{Meaning}
 use Rattle.kc_xt.specs.Peeks.{Looks}
@@ -59,10 +59,10 @@ looks_in (tried.Worn loc) v es c n l = l
 looks_in tried.Busy v es c n l = absurd (n refl)
 
 module _ (m : Meaning) (t : Tried) (v : SeatView) (f : Footprint) (c : SeatView) (l : Looked (Sees v) m t v f c) where
-  pub looked_keeps : Keeps v c
+  pub looked_keeps : KeepsKnown v c
   looked_keeps = go t l.made
     where
-      go : (t : Tried) → LooksIn (Sees v) t v l.looks c → Keeps v c
+      go : (t : Tried) → LooksIn (Sees v) t v l.looks c → KeepsKnown v c
       go (tried.Done r) x = looks_keep v v l.looks c x
       go tried.Later x = looks_keep v v l.looks c x
       go tried.TooLarge x = looks_keep v v l.looks c x
@@ -96,13 +96,13 @@ record Last (v : SeatView) (f : Footprint) (a : Told) (w : SeatView) : Type 0 wh
   from : SeatView
   made : Task
   mode : Mode
-  keeps : Keeps v from
+  keeps : KeepsKnown v from
   none : own_entries from ≡ own_entries v
-  was : Comes v from made a w
-  enters : (n : ℕ) → a ≡ told.Succeeded n → Does from made w → w.seat.told ≡ Some (told.Succeeded n) → SuccessTaught from.number n f mode (knows from) (knows w)
-  fails : (i : ℕ) → a ≡ told.Failed i → Does from made w → w.seat.told ≡ Some (told.Failed i) → FailureTaught f i (knows w)
+  was : TaskComes v from made a w
+  enters : (n : ℕ) → a ≡ told.Succeeded n → DoesTask from made w → w.seat.told ≡ Some (told.Succeeded n) → SuccessTaught from.number n f mode (knows from) (knows w)
+  fails : (i : ℕ) → a ≡ told.Failed i → DoesTask from made w → w.seat.told ≡ Some (told.Failed i) → FailureTaught f i (knows w)
 
-last_commit : (v u : SeatView) (f : Footprint) (m : Mode) (a : Told) (w : SeatView) → Keeps v u → own_entries u ≡ own_entries v → Comes v u (task.Commit f m) a w → Last v f a w
+last_commit : (v u : SeatView) (f : Footprint) (m : Mode) (a : Told) (w : SeatView) → KeepsKnown v u → own_entries u ≡ own_entries v → TaskComes v u (task.Commit f m) a w → Last v f a w
 last_commit v u f m a w k e was = record {
   from = u;
   made = task.Commit f m;
@@ -115,14 +115,14 @@ last_commit v u f m a w k e was = record {
 }
 
 -- behind a task that was crossed
-crossed_keeps : (v c u : SeatView) (t : Task) (i : ℕ) → Keeps v c → own_entries c ≡ own_entries v → WasTold v c t (told.Crossed i) u → Keeps v u × (own_entries u ≡ own_entries v)
+crossed_keeps : (v c u : SeatView) (t : Task) (i : ℕ) → KeepsKnown v c → own_entries c ≡ own_entries v → WasTold v c t (told.Crossed i) u → KeepsKnown v u × (own_entries u ≡ own_entries v)
 crossed_keeps v c u t i k e first = (keeps_then v c u k (did_keeps c u t first.did), come_gains v c t (told.Crossed i) u (inl first) ∙ e)
 
-last_install : (v c : SeatView) (f : Footprint) (a : Told) (w : SeatView) → Keeps v c → own_entries c ≡ own_entries v → Installs v f c a w → Last v f a w
+last_install : (v c : SeatView) (f : Footprint) (a : Told) (w : SeatView) → KeepsKnown v c → own_entries c ≡ own_entries v → Installs v f c a w → Last v f a w
 last_install v c f a w k e (once b x was o) = last_commit v c f Light a w k e was
 last_install v c f a w k e (again i u b x first was) = let y = crossed_keeps v c u (task.Commit f Light) i k e first in last_commit v u f All a w y.0 y.1 was
 
-last_of : (v c : SeatView) (f : Footprint) (a : Told) (w : SeatView) → Keeps v c → own_entries c ≡ own_entries v → Commits v f c a w → Last v f a w
+last_of : (v c : SeatView) (f : Footprint) (a : Told) (w : SeatView) → KeepsKnown v c → own_entries c ≡ own_entries v → SwapsOrInstalls v f c a w → Last v f a w
 last_of v c f a w k e (by_install b x at_once was) = last_install v c f a w k e was
 last_of v c f a w k e (behind_swap r after i u b x is first was) = let y = crossed_keeps v c u (task.Swap r after) i k e first in last_install v u f a w y.0 y.1 was
 last_of v c f a w k e (by_swap r after b x is was ends) = record {
@@ -138,11 +138,11 @@ last_of v c f a w k e (by_swap r after b x is was ends) = record {
       subst (λ g. FailureTaught g i (knows w)) (sym is) (r, ap (slice_get (r ∷ [])) zero, swap_failure_known c w i r after d s);
 }
 
-installs_keep : (v c : SeatView) (f : Footprint) (a : Told) (w : SeatView) → Installs v f c a w → Keeps c w
+installs_keep : (v c : SeatView) (f : Footprint) (a : Told) (w : SeatView) → Installs v f c a w → KeepsKnown c w
 installs_keep v c f a w (once b x was o) = come_keeps v c (task.Commit f Light) a w was
 installs_keep v c f a w (again i u b x first was) = keeps_then c u w (did_keeps c u (task.Commit f Light) first.did) (come_keeps v u (task.Commit f All) a w was)
 
-pub commits_keep : (v c : SeatView) (f : Footprint) (a : Told) (w : SeatView) → Commits v f c a w → Keeps c w
+pub commits_keep : (v c : SeatView) (f : Footprint) (a : Told) (w : SeatView) → SwapsOrInstalls v f c a w → KeepsKnown c w
 commits_keep v c f a w (by_install b x at_once was) = installs_keep v c f a w was
 commits_keep v c f a w (behind_swap r after i u b x is first was) = keeps_then c u w (did_keeps c u (task.Swap r after) first.did) (installs_keep v u f a w was)
 commits_keep v c f a w (by_swap r after b x is was ends) = come_keeps v c (task.Swap r after) a w was
@@ -167,7 +167,7 @@ installs_worn : (v c : SeatView) (f : Footprint) (a : Told) (w : SeatView) → I
 installs_worn v c f a w (once b x was o) = come_worn v c (task.Commit f Light) a w was
 installs_worn v c f a w (again i u b x first was) = λ h. come_worn v u (task.Commit f All) a w was (did_worn c u (task.Commit f Light) first.did h)
 
-pub commits_worn : (v c : SeatView) (f : Footprint) (a : Told) (w : SeatView) → Commits v f c a w → StaysWorn c w
+pub commits_worn : (v c : SeatView) (f : Footprint) (a : Told) (w : SeatView) → SwapsOrInstalls v f c a w → StaysWorn c w
 commits_worn v c f a w (by_install b x at_once was) = installs_worn v c f a w was
 commits_worn v c f a w (behind_swap r after i u b x is first was) = λ h. installs_worn v u f a w was (did_worn c u (task.Swap r after) first.did h)
 commits_worn v c f a w (by_swap r after b x is was ends) = come_worn v c (task.Swap r after) a w was
@@ -213,7 +213,7 @@ worn_answer (answered.WornLocation loc) e = absurd (cc)
 
 -- ---- what the footprint shows
 
-pub shows : (a : Told) (f : Footprint) → (left_of a f ≡ f) ⊎ (left_of a f ≡ bare f)
+pub shows : (a : Told) (f : Footprint) → (left_of a f ≡ f) ⊎ (left_of a f ≡ bare_footprint f)
 shows (told.Succeeded n) f = inl refl
 shows (told.Failed n) f = inr refl
 shows (told.Crossed n) f = inr refl
@@ -236,7 +236,7 @@ below_left told.Hung f n b = b
 below_left told.Free f n b = b
 
 -- a try whose looks were given up, with the reads alone left
-pub looked_bare : (m : Meaning) (v : SeatView) (f : Footprint) (c : SeatView) → Looked (Sees v) m tried.Busy v f c → Tries m (bare f) v c
+pub looked_bare : (m : Meaning) (v : SeatView) (f : Footprint) (c : SeatView) → Looked (Sees v) m tried.Busy v f c → Tries m (bare_footprint f) v c
 looked_bare m v f c l = record { tried = tried.Busy; seen = c; plan = f; shows = inr refl; came = refl; looked = l; commits = refl }
 
 pub came_alone : (m : Meaning) (t : Tried) (before f : Footprint) → t ≢ tried.Busy → Came m t before f → Came m t f f
@@ -264,7 +264,7 @@ entered_settles m (tried.Worn loc) before v f w steps n came puts g = (came, (pu
 entered_settles m tried.Busy before v f w steps n came puts g = absurd (n refl)
 
 -- who was overtaken read it
-overtaken_bare : (v : SeatView) (f : Footprint) (l n : ℕ) (w : SeatView) → WasOvertaken v f l n w → WasOvertaken v (bare f) l n w
+overtaken_bare : (v : SeatView) (f : Footprint) (l n : ℕ) (w : SeatView) → WasOvertaken v f l n w → WasOvertaken v (bare_footprint f) l n w
 overtaken_bare v f l n w o = record {
   read = o.read;
   reads = o.reads;
@@ -280,12 +280,12 @@ overtaken_bare v f l n w o = record {
   ends = o.ends;
 }
 
-pub settled : (m : Meaning) (t : Tried) (before : Footprint) (v c : SeatView) (f : Footprint) (a : Told) (w : SeatView) (steps : ℕ) → t ≢ tried.Busy → Came m t before f → PutsWhereDone t f → Looked (Sees v) m t v f c → Commits v f c a w
-    → is_told_committing (Some a) ≡ true → is_crossed a ≡ false → v.seat.made + steps ≡ w.seat.made → Settles m (verdict_as (fate_by a f steps) t) v (left_of a f) w
+pub settled : (m : Meaning) (t : Tried) (before : Footprint) (v c : SeatView) (f : Footprint) (a : Told) (w : SeatView) (steps : ℕ) → t ≢ tried.Busy → Came m t before f → PutsWhereDone t f → Looked (Sees v) m t v f c → SwapsOrInstalls v f c a w
+    → is_told_committing (Some a) ≡ true → is_told_crossed a ≡ false → v.seat.made + steps ≡ w.seat.made → Settles m (verdict_as (fate_by a f steps) t) v (left_of a f) w
 settled m t before v c f a w steps n came puts looked commits committing crossed counts =
     go a (last_of v c f a w (looked_keeps m t v f c looked) (looked_none m t v f c looked) commits) committing crossed
   where
-    done : (a : Told) (l : Last v f a w) → a ≢ told.Halted → Does l.from l.made w × (is_idle w.seat.work ≡ true) × (w.seat.told ≡ Some a)
+    done : (a : Told) (l : Last v f a w) → a ≢ told.Halted → DoesTask l.from l.made w × (is_idle w.seat.work ≡ true) × (w.seat.told ≡ Some a)
     done a l other = let s = come_told v l.from l.made a w other l.was in (was_done v l.from l.made a w other s, s.idle, s.says)
 
     gained : (a : Told) (l : Last v f a w) → GainsAsTold l.from.number l.made (Some a) (own_entries l.from) (own_entries w)
@@ -294,14 +294,14 @@ settled m t before v c f a w steps n came puts looked commits committing crossed
     same : (a : Told) (l : Last v f a w) → w.number ≡ v.number
     same a l = (come_keeps v l.from l.made a w l.was).number ∙ l.keeps.number
 
-    go : (a : Told) → Last v f a w → is_told_committing (Some a) ≡ true → is_crossed a ≡ false → Settles m (verdict_as (fate_by a f steps) t) v (left_of a f) w
+    go : (a : Told) → Last v f a w → is_told_committing (Some a) ≡ true → is_told_crossed a ≡ false → Settles m (verdict_as (fate_by a f steps) t) v (left_of a f) w
     go (told.Succeeded k) l e x = entered_settles m t before v f w steps n came puts (let d = done (told.Succeeded k) l (λ e. absurd (cc)) in gains v l.from w k f l.mode l.made l.keeps l.none d.0 d.1 d.2 (l.enters k refl d.0 d.2))
     go (told.Failed i) l e x =
         let none : GainsNothing v w = gained (told.Failed i) l ∙ l.none in
         let unput : (r : Seen) → Reads f r → ¬ HasPut (knows v) r = λ r y. (looked_fresh m t v f c looked n r y).unput in
         let d = done (told.Failed i) l (λ e. absurd (cc)) in
         let o = overtaken v w i f unput (same (told.Failed i) l) none (l.fails i refl d.0 d.2) in
-        subst (λ y. Settles m (verdict_as (lost_at y steps) t) v (bare f) w) (sym o.1) (overtaken_bare v f _ _ w o.2, none, refl)
+        subst (λ y. Settles m (verdict_as (lost_at y steps) t) v (bare_footprint f) w) (sym o.1) (overtaken_bare v f _ _ w o.2, none, refl)
     go told.Worn l e x = let d = done told.Worn l (λ e. absurd (cc)) in (worn_found l.from w l.made d.0 d.2, gained told.Worn l ∙ l.none, refl)
     go told.Halted l e x = ((counts, come_spent v l.from l.made told.Halted w l.was refl), gained told.Halted l ∙ l.none, refl)
     go (told.Crossed i) l e x = absurd (cc)
@@ -319,7 +319,7 @@ given_up m v f c steps l counts = go l.made
 
 -- ---- one try behind others
 
-gains_from : (v u : SeatView) (f : Footprint) (w : SeatView) → Keeps v u → own_entries u ≡ own_entries v → Gains u f w → Gains v f w
+gains_from : (v u : SeatView) (f : Footprint) (w : SeatView) → KeepsKnown v u → own_entries u ≡ own_entries v → Gains u f w → Gains v f w
 gains_from v u f w k none g = record {
   number = g.number;
   mode = g.mode;
@@ -331,7 +331,7 @@ gains_from v u f w k none g = record {
   own = g.own ∙ (λ i. none i ++ placed_entry g.taught.place g.mode (k.number i) g.number f ∷ []);
 }
 
-pub settles_from : (m : Meaning) (a : Verdict) (v u : SeatView) (f : Footprint) (w : SeatView) → is_final a ≡ true → Keeps v u → own_entries u ≡ own_entries v → Settles m a u f w → Settles m a v f w
+pub settles_from : (m : Meaning) (a : Verdict) (v u : SeatView) (f : Footprint) (w : SeatView) → is_final a ≡ true → KeepsKnown v u → own_entries u ≡ own_entries v → Settles m a u f w → Settles m a v f w
 settles_from m (verdict.Done r) v u f w e k none x = (x.0, gains_from v u f w k none x.1)
 settles_from m verdict.Later v u f w e k none x = (x.0, (x.1.0, gains_from v u f w k none x.1.1))
 settles_from m verdict.TooLarge v u f w e k none x = (x.0, (x.1.0, gains_from v u f w k none x.1.1))
@@ -357,7 +357,7 @@ from_start v z b of most before = record { before = before; most = most ∙ sym 
 pub counted : (a b s r : ℕ) → a ≤ b → s ≡ b → r ≡ a → a + (s - r) ≡ b
 counted a b s r up e f = omega (arith, up, e, f)
 
-pub commits_after : (t : Tried) (v : SeatView) (f : Footprint) (c : SeatView) (a : Told) (w : SeatView) → t ≢ tried.Busy → Commits v f c a w → CommitsAfter t v f c w
+pub commits_after : (t : Tried) (v : SeatView) (f : Footprint) (c : SeatView) (a : Told) (w : SeatView) → t ≢ tried.Busy → SwapsOrInstalls v f c a w → CommitsAfter t v f c w
 commits_after (tried.Done r) v f c a w n x = (a, x)
 commits_after tried.Later v f c a w n x = (a, x)
 commits_after tried.TooLarge v f c a w n x = (a, x)

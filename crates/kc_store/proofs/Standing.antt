@@ -1,7 +1,7 @@
 -- A seat that runs a look or a commit: how it stands, behind each step.
 use Rattle.std.proofs.Common.{◌≡◌, ◌≤◌, Bool, true, false, ℕ, ◌+◌, ◌-◌, ◌&&◌, ◌==◌, [], Option, None, Some, refl, sym, ◌∙◌, arith, subst, if◌then◌else◌}
 use Rattle.std.specs.Prelude.{bit_and, nat_lt}
-use Rattle.kc_hang.specs.kc_machine.Seats.{after, answer_by, answer_of, begun, begun_idle, blocked_by, ended, halted, halted_by, is_idle}
+use Rattle.kc_hang.specs.kc_machine.Seats.{seat_after, answer_by, seat_answered, begun, begun_idle, blocked_by, seat_halted, halted, halted_by, is_idle}
 use Rattle.kc_hang.specs.kc_machine.Works.{Work}
 use Rattle.kc_hang.specs.kc_machine.Works as work
 use Rattle.kc_hang.specs.kc_machine.declared.seat.Seat.{Seat}
@@ -18,7 +18,7 @@ use Rattle.kc_machine_steps.specs.Looks.{halts_at_once, look_after, look_halted,
 use Rattle.kc_machine_steps.specs.declared.look.Look.{Look}
 use Rattle.kc_machine_steps.specs.declared.look.LookNext.{LookNext}
 use Rattle.kc_machine_steps.specs.declared.look.LookNext.TheVariants as looking
-use Rattle.kc_machine_steps.specs.Swaps.{ends_at_once, exchange_next, may_swap, onward_of, owed_next, swap_after, swap_next, swap_next_at, wake_next}
+use Rattle.kc_machine_steps.specs.Swaps.{ends_at_once, exchange_next, may_swap, onward_of_swap, swap_owed_next, swap_after, swap_next, swap_next_at, swap_wake_next}
 use Rattle.kc_machine_steps.specs.declared.swap.Swap.{Swap}
 use Rattle.kc_machine_steps.specs.declared.swap.SwapNext.{SwapNext}
 use Rattle.kc_machine_steps.specs.declared.swap.SwapNext.TheVariants as swapping
@@ -40,7 +40,7 @@ use Rattle.kc_model.specs.declared.footprint.Loc.{Loc}
 use Rattle.kc_model.specs.declared.footprint.Seen.{Seen}
 use Rattle.kc_model.specs.declared.word.Word.TheVariants.{Plain, Ref}
 use Rattle.kc_store.proofs.Counting.{no_more_halted, no_more_step, no_more_steps, no_more_then}
-use Rattle.kc_store.specs.Works.{Stands, is_told_committing, is_told_swapping, stands_in}
+use Rattle.kc_store.specs.Works.{TaskStands, is_told_committing, is_told_swapping, stands_in}
 use Rattle.kc_hang.specs.kc_table_moves.Views.{SeatView, Stepped, StepsTo, here, further, Ran, begun_at}
 use Rattle.kc_hang.specs.kc_table_laws.Halts.{may_halt}
 
@@ -59,7 +59,7 @@ more n = no_less n (nat_lt n 18446744073709551615) refl
 
 -- ---- looks
 
-look_goes : (s : Seat) (l : Loc) (l' : Look) (b : Bool) (n : LookNext) → GoesOn (task.Look l) s (after (record s { work = work.Look l' }) (told_by b n))
+look_goes : (s : Seat) (l : Loc) (l' : Look) (b : Bool) (n : LookNext) → GoesOn (task.Look l) s (seat_after (record s { work = work.Look l' }) (told_by b n))
 look_goes s l l' true n = record { in_task = refl; blocked = refl; counts = more s.made }
 look_goes s l l' false (looking.Goes step) = record { in_task = refl; blocked = refl; counts = more s.made }
 look_goes s l l' false (looking.Saw seen) = record { in_task = refl; blocked = refl; counts = more s.made }
@@ -117,7 +117,7 @@ unblocked b told.Hung e = absurd (cc)
 unblocked b (told.Changed k) e = refl
 unblocked b told.Free e = absurd (cc)
 
-commit_goes : (s : Seat) (f : Footprint) (m : Mode) (c' : Commit) (n : Next) → said n ≡ true → GoesOn (task.Commit f m) s (after (record s { work = work.Commit c' }) (onward_by n))
+commit_goes : (s : Seat) (f : Footprint) (m : Mode) (c' : Commit) (n : Next) → said n ≡ true → GoesOn (task.Commit f m) s (seat_after (record s { work = work.Commit c' }) (onward_by n))
 commit_goes s f m c' (Goes st) e = record { in_task = refl; blocked = refl; counts = more s.made }
 commit_goes s f m c' (Takes st) e = record { in_task = refl; blocked = refl; counts = more s.made }
 commit_goes s f m c' (Tells t) e = record { in_task = e; blocked = unblocked s.blocked t e; counts = more s.made }
@@ -133,7 +133,7 @@ two_said : (b : Bool) (x y : SwapNext) → swap_said x ≡ true → swap_said y 
 two_said true x y p q = p
 two_said false x y p q = q
 
-owes_said : (calls owed : ℕ) → swap_said (owed_next calls owed) ≡ true
+owes_said : (calls owed : ℕ) → swap_said (swap_owed_next calls owed) ≡ true
 owes_said calls owed = two_said (owed == 0) (swapping.Tells (told.Succeeded calls)) (swapping.Goes (swap.Signal owed)) refl refl
 
 exchange_said : (r : Seen) (calls : ℕ) (f : Found) → swap_said (exchange_next r calls f) ≡ true
@@ -143,7 +143,7 @@ exchange_said r calls (found.Word (Plain v x)) =
 exchange_said r calls (found.Word (Ref g d k)) = refl
 exchange_said r calls f = refl
 
-wake_said : (calls : ℕ) (f : Found) → swap_said (wake_next calls f) ≡ true
+wake_said : (calls : ℕ) (f : Found) → swap_said (swap_wake_next calls f) ≡ true
 wake_said calls (found.Callers callers) = owes_said calls callers
 wake_said calls f = refl
 
@@ -167,7 +167,7 @@ pub told_commits : (o : Option Told) → is_told_swapping o ≡ true → is_told
 told_commits None e = absurd (cc)
 told_commits (Some t) e = swapping_commits t e
 
-swap_goes : (s : Seat) (r : Seen) (y : ℕ) (x : Swap) (n : SwapNext) → swap_said n ≡ true → GoesOn (task.Swap r y) s (after (record s { work = work.Swap x }) (onward_of n))
+swap_goes : (s : Seat) (r : Seen) (y : ℕ) (x : Swap) (n : SwapNext) → swap_said n ≡ true → GoesOn (task.Swap r y) s (seat_after (record s { work = work.Swap x }) (onward_of_swap n))
 swap_goes s r y x (swapping.Goes st) e = record { in_task = refl; blocked = refl; counts = more s.made }
 swap_goes s r y x (swapping.Takes st) e = record { in_task = refl; blocked = refl; counts = more s.made }
 swap_goes s r y x (swapping.Tells t) e = record { in_task = e; blocked = unblocked s.blocked t (swapping_commits t e); counts = more s.made }
@@ -195,7 +195,7 @@ by_work (task.Swap r y) s f (work.Leave h) a e busy = absurd (cc)
 by_work (task.Hang reads) s f w a e busy = absurd (cc)
 by_work (task.Leave reads) s f w a e busy = absurd (cc)
 
-pub answer_goes : (t : Task) (s : Seat) (f : Found) → stands_in t s ≡ true → is_idle s.work ≡ false → GoesOn t s (answer_of s f)
+pub answer_goes : (t : Task) (s : Seat) (f : Found) → stands_in t s ≡ true → is_idle s.work ≡ false → GoesOn t s (seat_answered s f)
 answer_goes t s f e busy = by_work t s f s.work s.told e busy
 
 pub step_goes : (t : Task) (v w : SeatView) → Stepped v w → stands_in t v.seat ≡ true → is_idle v.seat.work ≡ false → GoesOn t v.seat w.seat
@@ -207,7 +207,7 @@ goes_then t a b c x y =
     let q = y.counts in
     record { in_task = y.in_task; blocked = y.blocked ∙ x.blocked; counts = omega (arith, p, q) }
 
-ended_goes : (t : Task) (s : Seat) → stands_in t s ≡ true → GoesOn t s (ended s)
+ended_goes : (t : Task) (s : Seat) → stands_in t s ≡ true → GoesOn t s (seat_halted s)
 ended_goes (task.Look l) s e = record { in_task = refl; blocked = refl; counts = omega arith }
 ended_goes (task.Commit f m) s e = record { in_task = refl; blocked = refl; counts = omega arith }
 ended_goes (task.Swap r y) s e = record { in_task = refl; blocked = refl; counts = omega arith }
@@ -217,7 +217,7 @@ ended_goes (task.Leave reads) s e = absurd (cc)
 same_goes : (t : Task) (s s' : Seat) → stands_in t s' ≡ true → s'.blocked ≡ s.blocked → s'.made ≡ s.made → GoesOn t s s'
 same_goes t s s' e b m = record { in_task = e; blocked = b; counts = omega (arith, m) }
 
-halt_two : (t : Task) (s x : Seat) (b : Bool) → GoesOn t s (ended s) → GoesOn t s x → GoesOn t s (if b then ended s else x)
+halt_two : (t : Task) (s x : Seat) (b : Bool) → GoesOn t s (seat_halted s) → GoesOn t s x → GoesOn t s (if b then seat_halted s else x)
 halt_two t s x true p q = p
 halt_two t s x false p q = q
 
@@ -266,19 +266,19 @@ steps_go t v w e idle (further u x d busy s) =
 
 -- ---- views
 
-pub ran_stands : (t : Task) (v w : SeatView) → is_tried t ≡ true → is_idle v.seat.work ≡ true → Ran v t w → Stands v t w
+pub ran_stands : (t : Task) (v w : SeatView) → is_tried t ≡ true → is_idle v.seat.work ≡ true → Ran v t w → TaskStands v t w
 ran_stands t v w e idle r =
     let g = steps_go t v w e idle r.steps in
     record { shown = r.shown; in_task = g.in_task; blocked = g.blocked; counts = g.counts; no_more = no_more_steps v t w r.steps }
 
-pub stands_further : (t : Task) (v u w : SeatView) → Stands v t u → is_idle u.seat.work ≡ false → Stepped u w → Stands v t w
+pub stands_further : (t : Task) (v u w : SeatView) → TaskStands v t u → is_idle u.seat.work ≡ false → Stepped u w → TaskStands v t w
 stands_further t v u w st busy s =
     let g = step_goes t u w s st.in_task busy in
     let p = st.counts in
     let q = g.counts in
     record { shown = s.began; in_task = g.in_task; blocked = g.blocked ∙ st.blocked; counts = omega (arith, p, q); no_more = no_more_then v u w st.no_more (no_more_step u w s) }
 
-pub stands_halted : (t : Task) (v u : SeatView) → Stands v t u → Stands v t (record u { seat = halted u.seat })
+pub stands_halted : (t : Task) (v u : SeatView) → TaskStands v t u → TaskStands v t (record u { seat = halted u.seat })
 stands_halted t v u st =
     let g = halt_goes t u.seat st.in_task in
     let p = st.counts in
@@ -321,7 +321,7 @@ kind_kept v w st busy may on = go (some v.seat v.seat.work may)
 pub halt_told : (s : Seat) → is_idle s.work ≡ false → is_idle (halted s).work ≡ true → (halted s).told ≡ Some told.Halted
 halt_told s busy idle = go s s.work busy idle
   where
-    two_ends : (s x : Seat) (b : Bool) → is_idle x.work ≡ false → is_idle (if b then ended s else x).work ≡ true → (if b then ended s else x).told ≡ Some told.Halted
+    two_ends : (s x : Seat) (b : Bool) → is_idle x.work ≡ false → is_idle (if b then seat_halted s else x).work ≡ true → (if b then seat_halted s else x).told ≡ Some told.Halted
     two_ends s x true p q = refl
     two_ends s x false p q = absurd (cc)
 

@@ -17,10 +17,10 @@ use Rattle.kc_store.specs.Tries.{InstallsAtOnce, is_one_put}
 use Rattle.kc_store.specs.Works.{is_one_put_line}
 use Rattle.kc_hang.specs.kc_table_moves.Views.{SeatView, opening_at_seat}
 use Rattle.kc_hang.specs.kc_table_laws.Told.{IsWornOut}
-use Rattle.kc_hang.specs.kc_table_views.Tasks.{put_of}
+use Rattle.kc_hang.specs.kc_table_views.Tasks.{put_by_swap}
 
 module _ (f : Footprint) (xs : List Line) (r : Seen) (after : ℕ) (w : IsWellMade f) (lines : lines_of f ≡ xs) (one : xs ≡ swap_line r after ∷ []) where
-  pub is_put : f ≡ put_of r after
+  pub is_put : f ≡ put_by_swap r after
   is_put = sym (lines_say f w) ∙ ap footprint_of (lines ∙ one)
 
   pub reads_it : Reads f r

@@ -5,9 +5,9 @@ use Rattle.std.specs.Prelude.{All, Some}
 use Rattle.std.proofs.lemmas.List.Elements.{Contains-get_or}
 use Rattle.arrayvec.specs.ArrayVec.{ArrayVec}
 use Rattle.kc_hang.proofs.Steps.{runs_stepping}
-use Rattle.kc_hang.specs.Hanging.{MayStep, RunsTask, Shows, is_under_way, stepping, task_in, task_of}
+use Rattle.kc_hang.specs.Hanging.{MayStep, RunsTask, ShowsHang, is_under_way, stepping, task_in, task_of}
 use Rattle.kc_hang.specs.HangView.{HangView}
-use Rattle.kc_hang.specs.Hangs.{Ended, Hangs, changed, signalled}
+use Rattle.kc_hang.specs.Hangs.{TaskEnded, Hangs, changed, signalled}
 use Rattle.kc_hang.specs.declared.hang_state.HangState.{HangState}
 use Rattle.kc_hang.specs.declared.hang_state.HangState.TheVariants.{Going, Hung, Leaving, Free}
 use Rattle.kc_hang.specs.kc_machine.Seats.{begun, is_idle, own_of}
@@ -24,7 +24,7 @@ use Rattle.kc_store.proofs.Quiet.{first_unowned, idle_owns, learns_none, learns_
 use Rattle.kc_store.proofs.Remembering.{only_learns}
 use Rattle.kc_store.proofs.Seeing.{keeps_then}
 use Rattle.kc_store.specs.Answers.{own_entries}
-use Rattle.kc_store.specs.Hanging.{InState, IsUnowned, Stands}
+use Rattle.kc_store.specs.Hanging.{InState, IsUnowned, HangingStands}
 use Rattle.kc_store.specs.Knows.{OnlyLearns}
 use Rattle.kc_store.specs.Rests.{Rests}
 use Rattle.kc_store.specs.Views.{caller_view}
@@ -32,20 +32,20 @@ use Rattle.kc_store.specs.Works.{StaysWorn}
 use Rattle.kc_hang.specs.kc_table_moves.Views.{Learns, SeatView, Stepped}
 use Rattle.kc_hang.proofs.kc_table_laws.Causing.{worn_load, worn_step, worn_task}
 use Rattle.kc_hang.proofs.kc_table_laws.Keeping.{loads_keep, steps_keep}
-use Rattle.kc_hang.specs.kc_table_laws.Tasks.{Keeps}
+use Rattle.kc_hang.specs.kc_table_laws.Tasks.{KeepsKnown}
 
 pub all_below : (n : ℕ) (f : Footprint) → IsBelow n f → All (λ (r : Seen). r.loc.0 < n) f.reads.items
 all_below n f below = λ k d lt. below (get_or f.reads.items k d) (Contains-get_or f.reads.items k d lt)
 
 -- ---- between steps
 
-pub begins : (reads : ArrayVec Seen) (v : SeatView) → Rests v → reads.items ≢ [] → All (λ (r : Seen). r.loc.0 < v.of.origin.locations) reads.items → Stands Going false reads v
+pub begins : (reads : ArrayVec Seen) (v : SeatView) → Rests v → reads.items ≢ [] → All (λ (r : Seen). r.loc.0 < v.of.origin.locations) reads.items → HangingStands Going false reads v
 begins reads v r some below = record { some = some; below = below; in_state = (r.idle, r.free); owns_none = λ e. absurd (cc) }
 
-pub leaves : (b : Bool) (reads : ArrayVec Seen) (v : SeatView) → Stands Hung b reads v → Stands Leaving false reads v
+pub leaves : (b : Bool) (reads : ArrayVec Seen) (v : SeatView) → HangingStands Hung b reads v → HangingStands Leaving false reads v
 leaves b reads v s = record { some = s.some; below = s.below; in_state = (s.in_state, tt); owns_none = λ e. absurd (cc) }
 
-pub free_rests : (b : Bool) (reads : ArrayVec Seen) (v : SeatView) → Stands Free b reads v → Rests v
+pub free_rests : (b : Bool) (reads : ArrayVec Seen) (v : SeatView) → HangingStands Free b reads v → Rests v
 free_rests b reads v s = record { idle = s.in_state.0; free = s.in_state.1 }
 
 -- ---- a step
@@ -58,7 +58,7 @@ may_step_so Leaving true reads v e s = s
 may_step_so Hung b reads v e s = absurd (cc)
 may_step_so Free b reads v e s = absurd (cc)
 
-shown_in : (before state : HangState) (reads : ArrayVec Seen) (w : SeatView) → Shows reads before state w → InState state true reads w
+shown_in : (before state : HangState) (reads : ArrayVec Seen) (w : SeatView) → ShowsHang reads before state w → InState state true reads w
 shown_in Going Going reads w x = x
 shown_in Going Hung reads w x = x.0
 shown_in Going Free reads w x = (x.0, x.2)
@@ -76,7 +76,7 @@ stands_quiet Hung reads w s = inl s
 stands_quiet Leaving reads w s = inr (runs_waits reads w.seat.work (inr s.runs))
 stands_quiet Free reads w s = inl s.0
 
-module _ (state : HangState) (b : Bool) (reads : ArrayVec Seen) (v w : SeatView) (e : is_under_way state ≡ true) (stands : Stands state b reads v) where
+module _ (state : HangState) (b : Bool) (reads : ArrayVec Seen) (v w : SeatView) (e : is_under_way state ≡ true) (stands : HangingStands state b reads v) where
   abbrev h : HangView
   h = record { reads = reads; state = state; begun = b }
 
@@ -100,7 +100,7 @@ module _ (state : HangState) (b : Bool) (reads : ArrayVec Seen) (v w : SeatView)
         go true n q s = only_learns worn v w (steps_keep v w s) (step_gains_none v w (n refl) q s)
         go false n q s =
             let u : SeatView = record v { seat = begun v.seat (task_of h); began = true } in
-            let k : Keeps u w = steps_keep u w s in
+            let k : KeepsKnown u w = steps_keep u w s in
             only_learns worn v w (record { of = k.of; number = k.number; grows = k.grows; reads = k.reads; versions = k.versions }) (step_gains_none u w (first_unowned u w refl s) q s)
 
     of_table : w.of ≡ v.of
@@ -110,7 +110,7 @@ module _ (state : HangState) (b : Bool) (reads : ArrayVec Seen) (v w : SeatView)
         go true s = s.of
         go false s = s.of
 
-    pub step_stands : (state' : HangState) → Shows reads state state' w → Stands state' true reads w
+    pub step_stands : (state' : HangState) → ShowsHang reads state state' w → HangingStands state' true reads w
     step_stands state' x =
         let i = shown_in state state' reads w x in
         record {
@@ -130,7 +130,7 @@ in_state_on Leaving false reads v w s g (idle, any) = (ap (λ x. is_idle x.work)
 in_state_on Leaving true reads v w s g x = record { shown = g ∙ x.shown; runs = subst (λ y. RunsTask (task.Leave reads) y.work) (sym s) x.runs; may = tt }
 in_state_on Free b reads v w s g (idle, free) = (ap (λ x. is_idle x.work) s ∙ idle, ap (λ x. x.blocked) s ∙ free)
 
-pub stands_on : (state : HangState) (b : Bool) (reads : ArrayVec Seen) (v w : SeatView) → Stands state b reads v → Learns v w → Stands state b reads w
+pub stands_on : (state : HangState) (b : Bool) (reads : ArrayVec Seen) (v w : SeatView) → HangingStands state b reads v → Learns v w → HangingStands state b reads w
 stands_on state b reads v w s l = record {
   some = s.some;
   below = subst (λ z. All (λ (r : Seen). r.loc.0 < z.origin.locations) reads.items) (sym l.of) s.below;
@@ -149,7 +149,7 @@ in_state_owns Leaving false reads v s = idle_owns v.seat s.0
 in_state_owns Leaving true reads v s = waits_owns v.seat (runs_waits reads v.seat.work (inr s.runs))
 in_state_owns Free b reads v s = idle_owns v.seat s.0
 
-pub stands_learn : (state : HangState) (b : Bool) (reads : ArrayVec Seen) (worn : Bool) (v w : SeatView) → Stands state b reads v → Learns v w → OnlyLearns (caller_view worn v) (caller_view worn w)
+pub stands_learn : (state : HangState) (b : Bool) (reads : ArrayVec Seen) (worn : Bool) (v w : SeatView) → HangingStands state b reads v → Learns v w → OnlyLearns (caller_view worn v) (caller_view worn w)
 stands_learn state b reads worn v w s l = loads_learn worn v w (in_state_owns state b reads v s.in_state) l
 
 pub rests_learn : (worn : Bool) (v w : SeatView) → Rests v → Learns v w → OnlyLearns (caller_view worn v) (caller_view worn w)
@@ -157,15 +157,15 @@ rests_learn worn v w r l = loads_learn worn v w (idle_owns v.seat r.idle) l
 
 -- ---- a hang in one call
 
-ended_keeps : (v : SeatView) (t : Task) (a : Told) (w : SeatView) → Ended v t a w → Keeps v w
+ended_keeps : (v : SeatView) (t : Task) (a : Told) (w : SeatView) → TaskEnded v t a w → KeepsKnown v w
 ended_keeps v t a w e = did_keeps v w t (inl e.does)
 
-pub hangs_keep : (reads : ArrayVec Seen) (v w : SeatView) → Hangs reads v w → Keeps v w
+pub hangs_keep : (reads : ArrayVec Seen) (v w : SeatView) → Hangs reads v w → KeepsKnown v w
 hangs_keep reads v w (changed i x e) = ended_keeps v (task.Hang reads) (told.Changed i) w e
 hangs_keep reads v w (signalled a b x e s l) =
     keeps_then v a w (ended_keeps v (task.Hang reads) told.Hung a e) (keeps_then a b w (loads_keep a b s.learns) (ended_keeps b (task.Leave reads) told.Free w l))
 
-ended_none : (v : SeatView) (t : Task) (a : Told) (w : SeatView) → Ended v t a w → GainsAsTold v.number t (Some a) (own_entries v) (own_entries w)
+ended_none : (v : SeatView) (t : Task) (a : Told) (w : SeatView) → TaskEnded v t a w → GainsAsTold v.number t (Some a) (own_entries v) (own_entries w)
 ended_none v t a w e = subst (λ y. GainsAsTold v.number t y (own_entries v) (own_entries w)) e.told (did_gains v w t (inl e.does) e.idle)
 
 pub hangs_none : (reads : ArrayVec Seen) (v w : SeatView) → Hangs reads v w → own_entries w ≡ own_entries v

@@ -22,7 +22,7 @@ use Rattle.kc_model.specs.declared.footprint.Seen.{Seen}
 use Rattle.kc_store.proofs.Among.{first_or_later, nothing_in}
 use Rattle.kc_store.specs.Within.{LiesIn}
 use Rattle.kc_hang.specs.kc_table_moves.Origins.{opening_of}
-use Rattle.kc_hang.specs.kc_table_moves.Views.{IsPast, PastView, SeatView, TableView}
+use Rattle.kc_hang.specs.kc_table_moves.Views.{IsPast, TablePastView, SeatView, TableView}
 use Rattle.kc_hang.specs.kc_table_views.Known.{known}
 
 -- ---- what lines of locations below n say
@@ -86,5 +86,5 @@ all_lie o = every (λ es. IsSchedule o es → AllLie o es) step (λ w x c. nothi
 pub known_lie : (o : Opening) (es : List Event) → IsSchedule o es → All (LiesIn o.locations) (known o es)
 known_lie o es w = λ k x lt. all_lie o es w (get_or (known o es) k x) (Contains-get_or (known o es) k x lt)
 
-pub past_lies : (z : TableView) (seats : List SeatView) (p : PastView) → IsPast z seats p → All (LiesIn z.origin.locations) (known (opening_of p.origin) p.schedule)
+pub past_lies : (z : TableView) (seats : List SeatView) (p : TablePastView) → IsPast z seats p → All (LiesIn z.origin.locations) (known (opening_of p.origin) p.schedule)
 past_lies z seats p a = subst (λ q. All (LiesIn q.locations) (known (opening_of p.origin) p.schedule)) a.origin (known_lie (opening_of p.origin) p.schedule a.meant.0)

@@ -7,14 +7,14 @@ use Rattle.kc_model.specs.declared.reply.Reply.{Reply}
 use Rattle.kc_hang.specs.kc_machine_traces.Histories.{made}
 use Rattle.kc_store.specs.Answers.{Gains}
 use Rattle.kc_store.specs.Knows.{AddsNone, AddsOne}
-use Rattle.kc_store.specs.Views.{CallerView, opening}
+use Rattle.kc_store.specs.Views.{CallerView, store_opening}
 use Rattle.kc_store.specs.declared.alone.Sole.{Sole}
 use Rattle.kc_store.specs.declared.alone.Sole.TheVariants as sole
 use Rattle.kc_store.specs.declared.values.Wear.TheVariants as wear
 use Rattle.kc_store.specs.declared.verdict.Answered.{Answered}
 use Rattle.kc_store.specs.declared.verdict.Answered.TheVariants as answered
 use Rattle.kc_hang.specs.kc_table_moves.Views.{SeatView}
-use Rattle.kc_table_laws.specs.Sole.{HasNoLife, Rests, standing}
+use Rattle.kc_table_laws.specs.Sole.{HasNoLife, TableRests, standing}
 use Rattle.kc_xt.specs.Commit.{IsWorn, run_on}
 use Rattle.kc_xt.specs.Meaning.{CanMake, Makes, Meaning, Run, given_up, replied, retried, too_large}
 
@@ -35,10 +35,10 @@ pub record IsEntered (v : SeatView) (f : Footprint) (w : SeatView) : Type 0 wher
 -- the answer, the footprint, and what is left; behind all answers but Done all values, versions and generations are as before
 abbrev pub Concludes : Store → Run → Answered → SeatView → Footprint → SeatView → Type 0
 Concludes s r (answered.Done a) v f w = (r.outcome ≡ replied a) × CanMake s r.touches × ¬ HasNoLife v × Makes s r.touches f × IsEntered v f w
-Concludes s r answered.Later v f w = (r.outcome ≡ retried) × OnlyReads s r f × Rests v w
-Concludes s r answered.TooLarge v f w = (r.outcome ≡ too_large) × OnlyReads s r f × Rests v w
-Concludes s r (answered.WornLocation loc) v f w = Replies r × IsWorn s r.touches loc.0 × OnlyReads s r f × Rests v w
-Concludes s r answered.WornPool v f w = Replies r × CanMake s r.touches × HasNoLife v × Rests v w
+Concludes s r answered.Later v f w = (r.outcome ≡ retried) × OnlyReads s r f × TableRests v w
+Concludes s r answered.TooLarge v f w = (r.outcome ≡ too_large) × OnlyReads s r f × TableRests v w
+Concludes s r (answered.WornLocation loc) v f w = Replies r × IsWorn s r.touches loc.0 × OnlyReads s r f × TableRests v w
+Concludes s r answered.WornPool v f w = Replies r × CanMake s r.touches × HasNoLife v × TableRests v w
 
 -- a call of a meaning that was answered so
 abbrev pub EndsAlone : Meaning → Answered → SeatView → Footprint → SeatView → Type 0
@@ -55,17 +55,17 @@ told_in (sole.Worn (wear.Location loc f)) = answered.WornLocation loc
 told_in (sole.Worn wear.Pool) = answered.WornPool
 
 -- it says this, and has the footprint where something was read
-abbrev pub Says : Sole → Answered → Footprint → Type 0
-Says (sole.Done r g) a f = (a ≡ answered.Done r) × (g ≡ f)
-Says (sole.Later g) a f = (a ≡ answered.Later) × (g ≡ f)
-Says (sole.TooLarge g) a f = (a ≡ answered.TooLarge) × (g ≡ f)
-Says (sole.Worn (wear.Location loc g)) a f = (a ≡ answered.WornLocation loc) × (g ≡ f)
-Says (sole.Worn wear.Pool) a f = a ≡ answered.WornPool
+abbrev pub SoleSays : Sole → Answered → Footprint → Type 0
+SoleSays (sole.Done r g) a f = (a ≡ answered.Done r) × (g ≡ f)
+SoleSays (sole.Later g) a f = (a ≡ answered.Later) × (g ≡ f)
+SoleSays (sole.TooLarge g) a f = (a ≡ answered.TooLarge) × (g ≡ f)
+SoleSays (sole.Worn (wear.Location loc g)) a f = (a ≡ answered.WornLocation loc) × (g ≡ f)
+SoleSays (sole.Worn wear.Pool) a f = a ≡ answered.WornPool
 
 pub record AnswersAlone (m : Meaning) (end : ℕ) (a : Sole) (v w : SeatView) : Type 0 where
   pub answered : Answered
   pub footprint : Footprint
-  pub says : Says a answered footprint
+  pub says : SoleSays a answered footprint
   pub ends : EndsAlone m answered v footprint w
   pub within : IsBelow end footprint
 
@@ -73,18 +73,18 @@ pub record AnswersAlone (m : Meaning) (end : ℕ) (a : Sole) (v w : SeatView) : 
 
 -- what stands at each location, by all that the caller knows
 abbrev pub stood : CallerView → Store
-stood c = made (opening c.of) c.known
+stood c = made (store_opening c.of) c.known
 
 -- one entry more, which makes its puts and leaves all else
-abbrev pub Puts : CallerView → Footprint → CallerView → Type 0
-Puts c f d = AddsOne c f d × ((l : ℕ) → stood d l ≡ after f (stood c) l)
+abbrev pub MakesPuts : CallerView → Footprint → CallerView → Type 0
+MakesPuts c f d = AddsOne c f d × ((l : ℕ) → stood d l ≡ after f (stood c) l)
 
 -- nothing is known that wasn't, and all stands as it stood
 abbrev pub Leaves : CallerView → CallerView → Type 0
 Leaves c d = (d.known ≡ c.known) × AddsNone c d
 
 abbrev pub ToldAlone : Store → Run → Answered → CallerView → Footprint → CallerView → Type 0
-ToldAlone s r (answered.Done a) c f d = (r.outcome ≡ replied a) × Makes s r.touches f × Puts c f d
+ToldAlone s r (answered.Done a) c f d = (r.outcome ≡ replied a) × Makes s r.touches f × MakesPuts c f d
 ToldAlone s r answered.Later c f d = (r.outcome ≡ retried) × OnlyReads s r f × Leaves c d
 ToldAlone s r answered.TooLarge c f d = (r.outcome ≡ too_large) × OnlyReads s r f × Leaves c d
 ToldAlone s r (answered.WornLocation loc) c f d = Replies r × IsWorn s r.touches loc.0 × OnlyReads s r f × Leaves c d

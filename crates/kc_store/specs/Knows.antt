@@ -9,7 +9,7 @@ use Rattle.kc_model.specs.declared.footprint.Put.{Put}
 use Rattle.kc_model.specs.declared.footprint.Seen.{Seen}
 use Rattle.kc_model.specs.declared.reply.Answer.TheVariants as answer
 use Rattle.kc_store.specs.Verdicts.{is_worn_pool}
-use Rattle.kc_store.specs.Views.{CallerView, PastView, StoreView, last, opening}
+use Rattle.kc_store.specs.Views.{CallerView, PastView, StoreView, last, store_opening}
 use Rattle.kc_store.specs.declared.values.Outcome.{Outcome}
 use Rattle.kc_store.specs.declared.values.Outcome.TheVariants as outcome
 use Rattle.kc_store.specs.declared.values.Try.{Try}
@@ -116,13 +116,13 @@ CommitsSo m end (outcome.Worn wear.Pool) c d = AddsNone c d
 pub record OpensWith (values versions : List ℕ) (callers : ℕ) (z : StoreView) : Type 0 where
   pub locations : z.locations ≡ length values
   pub callers_are : z.callers ≡ callers
-  pub cells : (l : ℕ) → l < length values → opening z l ≡ record { version = get_or versions l 0; value = get_or values l 0 }
+  pub cells : (l : ℕ) → l < length values → store_opening z l ≡ record { version = get_or versions l 0; value = get_or values l 0 }
 
 -- ---- endings
 
 -- the one history: applied in order from the opening each entry finds its reads, and they make the last store; it has just the callers' own entries, and what each knows
 pub record IsHistory (z : StoreView) (callers : List CallerView) (p : PastView) : Type 0 where
-  pub legal : IsLegal (opening z) p.history (last p)
+  pub legal : IsLegal (store_opening z) p.history (last p)
   pub own : All (λ (c : CallerView). entries_of c.number p.history ≡ c.own) callers
   pub known : All (λ (c : CallerView). IsWithin c.known p.history) callers
   pub nobody_else : All (λ (e : Entry). e.caller < z.callers) p.history

@@ -12,16 +12,16 @@ use Rattle.kc_model.specs.declared.footprint.Seen.{Seen}
 use Rattle.kc_model.specs.declared.footprint.TheConstants.{MOST}
 use Rattle.kc_store.specs.Steps.{steps_made}
 use Rattle.kc_hang.specs.kc_table_moves.Views.{SeatView, Ran}
-use Rattle.kc_hang.specs.kc_table_laws.Tasks.{Keeps}
-use Rattle.kc_table_laws.specs.Sole.{HasNoLife, Rests, standing}
+use Rattle.kc_hang.specs.kc_table_laws.Tasks.{KeepsKnown}
+use Rattle.kc_table_laws.specs.Sole.{HasNoLife, TableRests, standing}
 use Rattle.kc_xt.specs.Lines.{look}
 use Rattle.kc_xt.specs.declared.attempts.Tried.{Tried}
 use Rattle.kc_xt.specs.declared.attempts.Tried.TheVariants as tried
 
 -- the seat is idle again, knows all that it knew, and has made n steps
 pub record Passes (v w : SeatView) (n : ℕ) : Type 0 where
-  pub keeps : Keeps v w
-  pub rests : Rests v w
+  pub keeps : KeepsKnown v w
+  pub rests : TableRests v w
   pub idle : is_idle w.seat.work ≡ true
   pub blocked : w.seat.blocked ≡ v.seat.blocked
   pub steps : steps_made w ≡ steps_made v + n
@@ -47,4 +47,4 @@ pub record CommitsAlone (f : Footprint) (made : Bool) (v w : SeatView) : Type 0 
   pub idle : is_idle w.seat.work ≡ true
   pub steps : steps_made w ≤ steps_made v + stretch 1 MOST
   pub succeeds : made ≡ true → ((n : ℕ) × (w.seat.told ≡ Some (told.Succeeded n))) × ¬ HasNoLife v
-  pub wears : made ≡ false → HasNoLife v × Rests v w
+  pub wears : made ≡ false → HasNoLife v × TableRests v w

@@ -29,5 +29,5 @@ abbrev pub HasSteps : SeatView → SeatView → Type 0
 HasSteps start v = v.seat.made - start.seat.made < busy_bound start.of.origin.callers
 
 -- it has made all of them: its task may be halted
-abbrev pub IsSpent : SeatView → SeatView → Type 0
-IsSpent start v = steps_made start + busy_bound start.of.origin.callers ≤ steps_made v
+abbrev pub StepsAreSpent : SeatView → SeatView → Type 0
+StepsAreSpent start v = steps_made start + busy_bound start.of.origin.callers ≤ steps_made v

@@ -4,7 +4,7 @@ use Rattle.kc_machine_steps.specs.declared.task.Told.{Told}
 use Rattle.kc_machine_steps.specs.declared.task.Told.TheVariants as told
 use Rattle.kc_model.specs.declared.footprint.Footprint.{Footprint}
 use Rattle.kc_model.specs.declared.footprint.Seen.{Seen}
-use Rattle.kc_store.specs.Tries.{bare}
+use Rattle.kc_store.specs.Tries.{bare_footprint}
 use Rattle.kc_store.specs.declared.verdict.Answered.{Answered}
 use Rattle.kc_store.specs.declared.verdict.Answered.TheVariants as answered
 use Rattle.kc_store.specs.declared.verdict.Fate.{Fate}
@@ -42,7 +42,7 @@ is_worn_by _ = false
 -- what is left of the footprint of such a try: behind an entry all of it, else what it read
 abbrev pub left_of : Told → Footprint → Footprint
 left_of (told.Succeeded n) f = f
-left_of _ f = bare f
+left_of _ f = bare_footprint f
 
 -- the verdict on what a transaction came to, whose try ended so
 abbrev pub verdict_as : Fate → Tried → Verdict

@@ -2,15 +2,15 @@
 use Rattle.std.specs.Prelude.{ℕ, zero, suc, ◌*◌, Bool, false, List, [], ◌∷◌}
 use Rattle.kc_hang.specs.kc_machine.Machine.{pool_size}
 use Rattle.kc_hang.specs.kc_machine.Seats.{fresh}
-use Rattle.kc_hang.specs.kc_machine_traces.Histories.{ending, entries}
+use Rattle.kc_hang.specs.kc_machine_traces.Histories.{ending_store, entries}
 use Rattle.kc_hang.specs.kc_machine_traces.Traces.{first_store}
 use Rattle.kc_model.specs.Store.{Store}
 use Rattle.kc_model.specs.declared.footprint.Entry.{Entry}
 use Rattle.kc_store.specs.Answers.{own_entries}
 use Rattle.kc_hang.specs.kc_table_moves.Origins.{opening_of}
 use Rattle.kc_hang.specs.kc_table_moves.Views.{SeatView, TableView, knows}
-use Rattle.kc_hang.specs.kc_table_moves.Views.{NoteView as TableNoteView}
-use Rattle.kc_hang.specs.kc_table_moves.Views.{PastView as TablePastView}
+use Rattle.kc_hang.specs.kc_table_moves.Views.{TableNoteView}
+use Rattle.kc_hang.specs.kc_table_moves.Views.{TablePastView}
 use Rattle.kc_hang.specs.kc_table_views.Known.{known}
 
 -- how many locations and callers it has; the table is for the crates below
@@ -23,8 +23,8 @@ abbrev pub store_view : TableView → StoreView
 store_view z = record { locations = z.origin.locations; callers = z.origin.callers; table = z }
 
 -- what stood at each location as it opened
-abbrev pub opening : StoreView → Store
-opening z = first_store (opening_of z.table.origin)
+abbrev pub store_opening : StoreView → Store
+store_opening z = first_store (opening_of z.table.origin)
 
 -- the store that it is of, and its number there; the entries that it knows of the one history; its own entries, all of which it knows; whether it was told that no descriptor has a life left; the seat is for the crates below
 pub record CallerView : Type 0 where
@@ -57,7 +57,7 @@ past_view p = record { history = entries (known (opening_of p.origin) p.schedule
 
 -- what stands at each location at its end
 abbrev pub last : PastView → Store
-last p = ending (first_store (opening_of p.past.origin)) (known (opening_of p.past.origin) p.past.schedule)
+last p = ending_store (first_store (opening_of p.past.origin)) (known (opening_of p.past.origin) p.past.schedule)
 
 -- ---- openings
 

@@ -12,10 +12,10 @@ use Rattle.kc_model.specs.declared.footprint.Footprint.{Footprint}
 use Rattle.kc_model.specs.declared.footprint.Line.{Line}
 use Rattle.kc_model.specs.declared.footprint.Seen.{Seen}
 use Rattle.kc_store.specs.Steps.{busy_bound, steps_made}
-use Rattle.kc_store.specs.Tries.{Commits, Did, Installs, Sees, is_crossed, look_of}
+use Rattle.kc_store.specs.Tries.{SwapsOrInstalls, Did, Installs, Sees, is_told_crossed, look_of}
 use Rattle.kc_store.specs.declared.budget.Budget.{Budget}
 use Rattle.kc_hang.specs.kc_table_moves.Views.{SeatView, opening_at_seat}
-use Rattle.kc_hang.specs.kc_table_laws.Tasks.{Does}
+use Rattle.kc_hang.specs.kc_table_laws.Tasks.{DoesTask}
 use Rattle.kc_hang.specs.kc_table_laws.Told.{IsWornOut}
 use Rattle.kc_xt.specs.Commit.{Looked}
 use Rattle.kc_xt.specs.Meaning.{Meaning}
@@ -54,35 +54,35 @@ is_told_worn told.Halted = true
 is_told_worn _ = false
 
 -- it looks, or was told what a look may be told
-abbrev pub looks : Work → Option Told → Bool
-looks work.Idle t = is_told_looking t
-looks (work.Look l) t = true
-looks _ t = false
+abbrev pub is_looking : Work → Option Told → Bool
+is_looking work.Idle t = is_told_looking t
+is_looking (work.Look l) t = true
+is_looking _ t = false
 
-abbrev pub commits : Work → Option Told → Bool
-commits work.Idle t = is_told_committing t
-commits (work.Commit c) t = true
-commits _ t = false
+abbrev pub is_committing : Work → Option Told → Bool
+is_committing work.Idle t = is_told_committing t
+is_committing (work.Commit c) t = true
+is_committing _ t = false
 
-abbrev pub swaps : Work → Option Told → Bool
-swaps work.Idle t = is_told_swapping t
-swaps (work.Swap x) t = true
-swaps _ t = false
+abbrev pub is_swapping : Work → Option Told → Bool
+is_swapping work.Idle t = is_told_swapping t
+is_swapping (work.Swap x) t = true
+is_swapping _ t = false
 
 -- it runs a task of this kind, or has ended one
 abbrev pub stands_in : Task → Seat → Bool
-stands_in (task.Look l) s = looks s.work s.told
-stands_in (task.Commit f m) s = commits s.work s.told
+stands_in (task.Look l) s = is_looking s.work s.told
+stands_in (task.Commit f m) s = is_committing s.work s.told
 stands_in (task.Hang reads) s = false
 stands_in (task.Leave reads) s = false
-stands_in (task.Swap r after) s = swaps s.work s.told
+stands_in (task.Swap r after) s = is_swapping s.work s.told
 
 -- the seat counts no more steps than it makes
 abbrev pub CountsNoMore : SeatView → SeatView → Type 0
 CountsNoMore v w = w.seat.made + steps_made v ≤ v.seat.made + steps_made w
 
 -- since v the seat has begun this task, and its steps have shown it
-pub record Stands (v : SeatView) (t : Task) (w : SeatView) : Type 0 where
+pub record TaskStands (v : SeatView) (t : Task) (w : SeatView) : Type 0 where
   pub shown : w.began ≡ false
   pub in_task : stands_in t w.seat ≡ true
   pub blocked : w.seat.blocked ≡ v.seat.blocked
@@ -91,13 +91,13 @@ pub record Stands (v : SeatView) (t : Task) (w : SeatView) : Type 0 where
 
 -- its last step is its last event
 pub record Runs (v : SeatView) (t : Task) (w : SeatView) : Type 0 where
-  pub does : Does v t w
-  pub stands : Stands v t w
+  pub does : DoesTask v t w
+  pub stands : TaskStands v t w
 
 -- or it has been halted since
 pub record MayRun (v : SeatView) (t : Task) (w : SeatView) : Type 0 where
   pub did : Did v t w
-  pub stands : Stands v t w
+  pub stands : TaskStands v t w
 
 -- ---- parts of a call, by its budget
 
@@ -136,12 +136,12 @@ pub record Advances (v w : SeatView) : Type 0 where
   pub no_more : CountsNoMore v w
 
 -- what a look was told that gives this
-abbrev pub told_by : Result Seen PeekBusy → Told
-told_by (Ok r) = told.Seen r
-told_by (Err busy) = told.Halted
+abbrev pub peek_told : Result Seen PeekBusy → Told
+peek_told (Ok r) = told.Seen r
+peek_told (Err busy) = told.Halted
 
-abbrev pub LooksAt : ℕ → SeatView → Budget → Result Seen PeekBusy → SeatView → Type 0
-LooksAt l v b r w = EndsOrIsLeft (look_of l) v b (told_by r) w
+abbrev pub PeeksAt : ℕ → SeatView → Budget → Result Seen PeekBusy → SeatView → Type 0
+PeeksAt l v b r w = EndsOrIsLeft (look_of l) v b (peek_told r) w
 
 -- all looks of a meaning
 pub record AllLooked (m : Meaning) (t : Tried) (f : Footprint) (v : SeatView) (b : Budget) (w : SeatView) : Type 0 where
@@ -153,14 +153,14 @@ pub record AllInstalled (f : Footprint) (a : Told) (v : SeatView) (b : Budget) (
   pub installs : (start : SeatView) → IsFrom start b v → Installs start f v a w
   pub advances : Advances v w
   pub committing : is_told_committing (Some a) ≡ true
-  pub uncrossed : is_crossed a ≡ false
+  pub uncrossed : is_told_crossed a ≡ false
 
 -- all commits of a footprint
 pub record AllCommitted (f : Footprint) (a : Told) (v : SeatView) (b : Budget) (w : SeatView) : Type 0 where
-  pub commits : (start : SeatView) → IsFrom start b v → Commits start f v a w
+  pub commits : (start : SeatView) → IsFrom start b v → SwapsOrInstalls start f v a w
   pub advances : Advances v w
   pub committing : is_told_committing (Some a) ≡ true
-  pub uncrossed : is_crossed a ≡ false
+  pub uncrossed : is_told_crossed a ≡ false
 
 -- ---- lines of a footprint
 

@@ -9,9 +9,9 @@ ghost use Rattle.kc_model.specs.Footprint.{IsBelow, IsWellMade};
 ghost use Rattle.kc_model.specs.Store.{Finds};
 ghost use Rattle.kc_model.specs.declared.footprint.TheConstants.{MOST};
 ghost use Rattle.kc_hang.specs.kc_table_moves.Views.{KnowsReads};
-ghost use Rattle.kc_hang.specs.kc_table_laws.Tasks.{Keeps};
+ghost use Rattle.kc_hang.specs.kc_table_laws.Tasks.{KeepsKnown};
 ghost use Rattle.kc_table_laws.specs.Sole.{standing};
-ghost use Rattle.kc_store.specs.Alone.{AnswersAlone, EndsAlone, IsToldAlone, Says, SoleSo, told_in};
+ghost use Rattle.kc_store.specs.Alone.{AnswersAlone, EndsAlone, IsToldAlone, SoleSays, SoleSo, told_in};
 ghost use Rattle.kc_store.specs.Knows.{NotesWear, Remembers};
 ghost use Rattle.kc_store.specs.Lone.{CommitsAlone, is_worn};
 ghost use Rattle.kc_store.specs.Steps.{sole_bound, steps_made};
@@ -41,7 +41,7 @@ pub enum Sole {
 
 impl Sole {
     fn of(answered: Answered, footprint: Footprint) -> Sole
-        ensures { Says result answered footprint }
+        ensures { SoleSays result answered footprint }
     {
         match answered {
             Answered::Done(reply) => Sole::Done { reply, footprint },
@@ -72,7 +72,7 @@ impl Store {
         ensures told { IsToldAlone (limited (T.most transaction.now) (T.meaning transaction.now)) result caller.old footprint.new caller.new }
         ensures ends { EndsAlone (limited (T.most transaction.now) (T.meaning transaction.now)) result caller.old.seat footprint.new caller.new.seat }
         ensures steps { steps_made caller.new.seat ≤ steps_made caller.old.seat + sole_bound }
-        ensures keeps { Keeps caller.old.seat caller.new.seat }
+        ensures keeps { KeepsKnown caller.old.seat caller.new.seat }
         ensures remembers { Remembers caller.old caller.new }
         ensures within { IsBelow (T.end transaction.now) footprint.new }
         ensures notes { NotesWear caller.old (verdict_of result) caller.new }
@@ -97,7 +97,7 @@ impl Store {
         ensures so { SoleSo (limited (T.most transaction.now) (T.meaning transaction.now)) (T.end transaction.now) result caller.old caller.new }
         ensures ends { AnswersAlone (limited (T.most transaction.now) (T.meaning transaction.now)) (T.end transaction.now) result caller.old.seat caller.new.seat }
         ensures steps { steps_made caller.new.seat ≤ steps_made caller.old.seat + sole_bound }
-        ensures keeps { Keeps caller.old.seat caller.new.seat }
+        ensures keeps { KeepsKnown caller.old.seat caller.new.seat }
         ensures remembers { Remembers caller.old caller.new }
         ensures notes { NotesWear caller.old (verdict_of (told_in result)) caller.new }
     {
@@ -123,7 +123,7 @@ fn end_alone<T: Transact>(
     requires within { T.end transaction.now ≤ table.now.origin.locations }
     ensures ends { EndsAlone (limited (T.most transaction.now) (T.meaning transaction.now)) result seat.old footprint.new seat.new }
     ensures steps { steps_made seat.new ≤ steps_made seat.old + sole_bound }
-    ensures keeps { Keeps seat.old seat.new }
+    ensures keeps { KeepsKnown seat.old seat.new }
     ensures idle { is_idle seat.new.seat.work ≡ true }
     ensures blocked { seat.new.seat.blocked ≡ seat.old.seat.blocked }
     ensures within { IsBelow (T.end transaction.now) footprint.new }

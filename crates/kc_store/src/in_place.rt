@@ -1,7 +1,7 @@
 //! One try whose reply stays where it lies.
 
 ghost use Rattle.std.specs.Prelude.{◌≡◌, ◌≤◌, true};
-ghost use Rattle.kc_hang.specs.kc_table_laws.Tasks.{Keeps};
+ghost use Rattle.kc_hang.specs.kc_table_laws.Tasks.{KeepsKnown};
 ghost use Rattle.kc_model.specs.Footprint.{IsBelow};
 ghost use Rattle.kc_store.specs.Answers.{Settles};
 ghost use Rattle.kc_store.specs.Knows.{IsTold, NotesWear, Remembers};
@@ -32,7 +32,7 @@ impl Store {
         ensures told { IsTold (limited (T.most transaction.now) (T.meaning transaction.now)) (verdict_as result (tried_of trial.new.went trial.new.reply)) caller.old footprint.new caller.new }
         ensures tries { Tries (limited (T.most transaction.now) (T.meaning transaction.now)) footprint.new caller.old.seat caller.new.seat }
         ensures settles { Settles (limited (T.most transaction.now) (T.meaning transaction.now)) (verdict_as result (tried_of trial.new.went trial.new.reply)) caller.old.seat footprint.new caller.new.seat }
-        ensures keeps { Keeps caller.old.seat caller.new.seat }
+        ensures keeps { KeepsKnown caller.old.seat caller.new.seat }
         ensures remembers { Remembers caller.old caller.new }
         ensures within { has_entry (verdict_as result (tried_of trial.new.went trial.new.reply)) ≡ true → IsBelow (T.end transaction.now) footprint.new }
         ensures worn { caller.old.worn ≡ true → stays_worn (verdict_as result (tried_of trial.new.went trial.new.reply)) ≡ true }

@@ -8,29 +8,29 @@ ghost use Rattle.kc_model.specs.Legal.{IsLegal};
 ghost use Rattle.kc_model.specs.Store.{Store as Cells};
 ghost use Rattle.kc_model.specs.declared.footprint.Entry.{Entry};
 ghost use Rattle.kc_model.specs.declared.reply.Answer.{Answer};
-ghost use Rattle.kc_hang.specs.kc_machine_traces.Histories.{History, IsLegalHistory, Placed, ending};
+ghost use Rattle.kc_hang.specs.kc_machine_traces.Histories.{History, IsLegalHistory, Placed, ending_store};
 ghost use Rattle.kc_xt.specs.Commit.{Answers, IsWorn, Waits, Wears, answer_of, run_on};
 ghost use Rattle.kc_xt.specs.Meaning.{Meaning, retried};
 ghost use Rattle.kc_store.specs.Knows.{OnlyLearns, Remembers};
 ghost use Rattle.kc_store.specs.Views.{CallerView};
 ghost use Rattle.kc_store.specs.Within.{LiesIn};
 ghost use Rattle.kc_hang.specs.kc_table_moves.Origins.{opening_of};
-ghost use Rattle.kc_hang.specs.kc_table_moves.Views.{IsPast, PastView, SeatView, TableView};
+ghost use Rattle.kc_hang.specs.kc_table_moves.Views.{IsPast, TablePastView, SeatView, TableView};
 ghost use Rattle.kc_hang.specs.kc_table_views.Known.{known};
 
 /// What an answer says of its meaning on every store that the entry's reads show holds of the store at the entry's place, in
 /// any legal history that has the entry.
 pub fn answers_hold_at_their_place()
-    ensures answers { (s : Cells) (h : History) (i : ℕ) (x : Placed) (m : Meaning) (a : Answer) → IsLegalHistory s h → slice_get h i ≡ Some x → Answers m a x.entry.footprint → answer_of (run_on m (ending s (take i h))).outcome ≡ Some a }
-    ensures waits { (s : Cells) (h : History) (i : ℕ) (x : Placed) (m : Meaning) → IsLegalHistory s h → slice_get h i ≡ Some x → Waits m x.entry.footprint → (run_on m (ending s (take i h))).outcome ≡ retried }
-    ensures wears { (s : Cells) (h : History) (i l : ℕ) (x : Placed) (m : Meaning) → IsLegalHistory s h → slice_get h i ≡ Some x → Wears m l x.entry.footprint → IsWorn (ending s (take i h)) (run_on m (ending s (take i h))).touches l }
+    ensures answers { (s : Cells) (h : History) (i : ℕ) (x : Placed) (m : Meaning) (a : Answer) → IsLegalHistory s h → slice_get h i ≡ Some x → Answers m a x.entry.footprint → answer_of (run_on m (ending_store s (take i h))).outcome ≡ Some a }
+    ensures waits { (s : Cells) (h : History) (i : ℕ) (x : Placed) (m : Meaning) → IsLegalHistory s h → slice_get h i ≡ Some x → Waits m x.entry.footprint → (run_on m (ending_store s (take i h))).outcome ≡ retried }
+    ensures wears { (s : Cells) (h : History) (i l : ℕ) (x : Placed) (m : Meaning) → IsLegalHistory s h → slice_get h i ≡ Some x → Wears m l x.entry.footprint → IsWorn (ending_store s (take i h)) (run_on m (ending_store s (take i h))).touches l }
 {}
 
 /// Each entry of a schedule of well-made tasks reads and puts locations of the opening alone; so does each entry of what is left
 /// when all callers came back.
 pub fn entries_lie_in_the_store()
     ensures known { (o : Opening) (es : List Event) → IsSchedule o es → All (LiesIn o.locations) (known o es) }
-    ensures past { (z : TableView) (seats : List SeatView) (p : PastView) → IsPast z seats p → All (LiesIn z.origin.locations) (known (opening_of p.origin) p.schedule) }
+    ensures past { (z : TableView) (seats : List SeatView) (p : TablePastView) → IsPast z seats p → All (LiesIn z.origin.locations) (known (opening_of p.origin) p.schedule) }
 {}
 
 /// What an answer says of its meaning on every store that the entry's reads show holds of the store at the entry's place, in any

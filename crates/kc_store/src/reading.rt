@@ -1,9 +1,9 @@
 //! Reads of one location without a transaction.
 
 ghost use Rattle.std.specs.Prelude.{◌≡◌, ◌<◌};
-ghost use Rattle.kc_hang.specs.kc_table_laws.Tasks.{Keeps};
+ghost use Rattle.kc_hang.specs.kc_table_laws.Tasks.{KeepsKnown};
 ghost use Rattle.kc_store.specs.Knows.{OnlyLearns};
-ghost use Rattle.kc_store.specs.Reads.{IsRead};
+ghost use Rattle.kc_store.specs.Reads.{IsReadOrBusy};
 
 use crate::budget::Budget;
 use crate::looks::look_at;
@@ -29,9 +29,9 @@ impl Store {
     pub fn read(&self, caller: &mut Caller, at: Loc) -> Result<Seen, ReadBusy>
         requires caller { caller.old.of ≡ self.now }
         requires within { at.0 < self.now.locations }
-        ensures reads { IsRead at.0 result caller.old caller.new }
+        ensures reads { IsReadOrBusy at.0 result caller.old caller.new }
         ensures learns { OnlyLearns caller.old caller.new }
-        ensures keeps { Keeps caller.old.seat caller.new.seat }
+        ensures keeps { KeepsKnown caller.old.seat caller.new.seat }
     {
         let seat: &mut KcSeat = &mut caller.seat;
         let before = seat.steps();

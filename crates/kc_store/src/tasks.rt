@@ -14,7 +14,7 @@ ghost use Rattle.kc_hang.specs.kc_machine_traces.Traces.{swap_line};
 ghost use Rattle.kc_hang.specs.kc_table_moves.Views.{KnowsReads, SeatView, opening_at_seat};
 ghost use Rattle.kc_hang.specs.kc_table_laws.Halts.{is_halted, may_halt, was_halted};
 ghost use Rattle.kc_store.specs.Steps.{steps_made};
-ghost use Rattle.kc_store.specs.Tries.{is_crossed};
+ghost use Rattle.kc_store.specs.Tries.{is_told_crossed};
 ghost use Rattle.kc_store.specs.Works.{AllCommitted, AllInstalled, EndsOrIsLeft, MayRun, Runs, is_one_put_line, is_told_committing, is_told_swapping, is_told_worn};
 ghost use Rattle.kc_hang.specs.kc_table_laws.Told.{IsWornOut};
 
@@ -170,7 +170,7 @@ fn install(
 }
 
 fn is_crossed(told: Told) -> bool
-    ensures { result ≡ is_crossed told }
+    ensures { result ≡ is_told_crossed told }
 {
     matches!(told, Told::Crossed { .. })
 }

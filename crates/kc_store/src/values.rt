@@ -1,7 +1,7 @@
 //! Answers that own their footprint.
 
 ghost use Rattle.std.specs.Prelude.{◌≡◌, ◌≤◌, true};
-ghost use Rattle.kc_hang.specs.kc_table_laws.Tasks.{Keeps};
+ghost use Rattle.kc_hang.specs.kc_table_laws.Tasks.{KeepsKnown};
 ghost use Rattle.kc_store.specs.Knows.{CommitsSo, NotesWear, Remembers, TriesSo};
 ghost use Rattle.kc_store.specs.Values.{CommitsTo, IsOutcome, IsTry, TriesTo, answered_in, verdict_in};
 ghost use Rattle.kc_store.specs.Verdicts.{stays_worn, verdict_of};
@@ -88,7 +88,7 @@ impl Store {
         requires within { T.end transaction.now ≤ self.now.locations }
         ensures so { TriesSo (limited (T.most transaction.now) (T.meaning transaction.now)) (T.end transaction.now) result caller.old caller.new }
         ensures tries { TriesTo (limited (T.most transaction.now) (T.meaning transaction.now)) (T.end transaction.now) result caller.old.seat caller.new.seat }
-        ensures keeps { Keeps caller.old.seat caller.new.seat }
+        ensures keeps { KeepsKnown caller.old.seat caller.new.seat }
         ensures remembers { Remembers caller.old caller.new }
         ensures worn { caller.old.worn ≡ true → stays_worn (verdict_in result) ≡ true }
         ensures notes { NotesWear caller.old (verdict_in result) caller.new }
@@ -110,7 +110,7 @@ impl Store {
         requires within { T.end transaction.now ≤ self.now.locations }
         ensures so { CommitsSo (limited (T.most transaction.now) (T.meaning transaction.now)) (T.end transaction.now) result caller.old caller.new }
         ensures tries { CommitsTo (limited (T.most transaction.now) (T.meaning transaction.now)) (T.end transaction.now) result caller.old.seat caller.new.seat }
-        ensures keeps { Keeps caller.old.seat caller.new.seat }
+        ensures keeps { KeepsKnown caller.old.seat caller.new.seat }
         ensures remembers { Remembers caller.old caller.new }
         ensures worn { caller.old.worn ≡ true → result ≡ outcome.Worn wear.Pool }
         ensures notes { NotesWear caller.old (verdict_of (answered_in result)) caller.new }

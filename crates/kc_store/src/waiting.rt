@@ -1,14 +1,14 @@
 //! Callers that hang on what they read.
 
 ghost use Rattle.std.specs.Prelude.{◌≡◌, ◌≢◌, ◌≤◌, [], true, false, length};
-ghost use Rattle.kc_hang.specs.Hanging.{Shows, is_under_way, stepping, task_of};
+ghost use Rattle.kc_hang.specs.Hanging.{ShowsHang, is_under_way, stepping, task_of};
 ghost use Rattle.kc_hang.specs.Hangs.{Hangs};
 ghost use Rattle.kc_hang.specs.kc_machine.Seats.{steps_of};
 ghost use Rattle.kc_model.specs.Footprint.{IsBelow};
 ghost use Rattle.kc_store.specs.HangingView.{hang_of};
 ghost use Rattle.kc_store.specs.Knows.{OnlyLearns};
 ghost use Rattle.kc_hang.specs.kc_table_moves.Views.{SeatView, Signalled, Stepped};
-ghost use Rattle.kc_hang.specs.kc_table_laws.Tasks.{Does};
+ghost use Rattle.kc_hang.specs.kc_table_laws.Tasks.{DoesTask};
 
 use crate::store::{Caller, Store};
 use arrayvec::ArrayVec;
@@ -47,7 +47,7 @@ pub struct Hanging {
 }
 
 impl Model for Hanging {
-    ghost use Rattle.kc_store.specs.Hanging.{Stands};
+    ghost use Rattle.kc_store.specs.Hanging.{HangingStands};
     ghost use Rattle.kc_store.specs.HangingView.{HangingView};
     ghost use Rattle.kc_store.specs.Rests.{KnowsItsWear};
     ghost use Rattle.kc_store.specs.Views.{caller_view};
@@ -56,7 +56,7 @@ impl Model for Hanging {
 
     ghost view = { λ h. record { caller = caller_view h.worn h.seat.value; reads = h.reads; state = h.state; begun = h.begun } };
 
-    ghost invariant = { λ h. Stands h.state h.begun h.reads h.seat.value × KnowsItsWear h.worn h.seat.value };
+    ghost invariant = { λ h. HangingStands h.state h.begun h.reads h.seat.value × KnowsItsWear h.worn h.seat.value };
 }
 
 impl Hanging {
@@ -134,10 +134,10 @@ pub fn hang_step(store: &Store, hanging: &mut Hanging) -> HangState
     requires under_way { is_under_way hanging.old.state ≡ true }
     ensures hanging { hanging.new ≡ record hanging.old { caller = hanging.new.caller; state = result; begun = true } }
     ensures learns { OnlyLearns hanging.old.caller hanging.new.caller }
-    ensures shows { Shows hanging.old.reads hanging.old.state result hanging.new.caller.seat }
+    ensures shows { ShowsHang hanging.old.reads hanging.old.state result hanging.new.caller.seat }
     ensures step { Stepped (stepping (hang_of hanging.old) hanging.old.caller.seat) hanging.new.caller.seat }
-    ensures first { hanging.old.begun ≡ false → Does hanging.old.caller.seat (task_of (hang_of hanging.old)) hanging.new.caller.seat }
-    ensures further { hanging.old.begun ≡ true → (v : SeatView) → Does v (task_of (hang_of hanging.old)) hanging.old.caller.seat → Does v (task_of (hang_of hanging.old)) hanging.new.caller.seat }
+    ensures first { hanging.old.begun ≡ false → DoesTask hanging.old.caller.seat (task_of (hang_of hanging.old)) hanging.new.caller.seat }
+    ensures further { hanging.old.begun ≡ true → (v : SeatView) → DoesTask v (task_of (hang_of hanging.old)) hanging.old.caller.seat → DoesTask v (task_of (hang_of hanging.old)) hanging.new.caller.seat }
 {
     let mut hang = Hang::at(&hanging.reads, hanging.state, hanging.begun);
     let state = step(&store.table, &mut hanging.seat, &mut hang);

@@ -1,7 +1,7 @@
 //! Tries and commits by callers of a store, and threads that count.
 
 ghost use Rattle.std.specs.Prelude.{◌≡◌, ◌+◌, ◌<◌, ◌≤◌, length, IfOk, IfSome};
-ghost use Rattle.kc_hash.specs.Meaning.{cells_end};
+ghost use Rattle.kc_hash.specs.Meaning.{hash_cells_end};
 
 use crate::asserts::{equal, holds};
 use kc_hash::{Hash, HashAct, HashOp};
@@ -159,7 +159,7 @@ const KEYS: u32 = 130;
 // How many keys are put before a put is too large.
 fn puts(store: &Store, caller: &mut Caller, hash: Hash, footprint: &mut Footprint) -> u32
     requires caller { caller.old.of ≡ store.now }
-    requires within { cells_end hash ≤ store.now.locations }
+    requires within { hash_cells_end hash ≤ store.now.locations }
 {
     for key in 0..KEYS {
         let act = HashAct::Put(key, key);

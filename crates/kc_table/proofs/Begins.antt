@@ -15,16 +15,16 @@ use Rattle.kc_table_straight.specs.kc_machine_invariants.Seated.{SeatsStay}
 use Rattle.kc_machine_steps.specs.declared.task.Event.{Event}
 use Rattle.kc_machine_steps.specs.declared.task.Event.TheVariants.{Begin, Halt}
 use Rattle.kc_machine_steps.specs.declared.task.Task.{Task}
-use Rattle.kc_table_straight.specs.kc_machine_traces.Entries.{by}
+use Rattle.kc_table_straight.specs.kc_machine_traces.Entries.{placed_by}
 use Rattle.kc_table_straight.specs.kc_machine_traces.Moments.{BeginsNothing}
 use Rattle.kc_table_straight.specs.kc_machine_traces.Parts.{NoneOf}
 use Rattle.kc_table_layout.specs.Cells.{place, signal_bit}
 use Rattle.kc_table_layout.specs.Cells.Cell.{signal}
 use Rattle.kc_table_moves.proofs.Allowed.{pends_on}
 use Rattle.kc_table_moves.specs.Origins.{opening_of}
-use Rattle.kc_table_moves.specs.Rule.{part, view, loads_of, number_of, past_of, Ready, Merged, Heard}
-use Rattle.kc_table_moves.specs.Views.{TableView, SeatView, NoteView, KnowsReads, Starts, Learns, Joined, Signalled}
-use Rattle.kc_table_moves.specs.Views.{seen_as}
+use Rattle.kc_table_moves.specs.Rule.{part, view, loads_of, number_of, past_of, ReadySeat, Merged, Heard}
+use Rattle.kc_table_moves.specs.Views.{TableView, SeatView, TableNoteView, KnowsReads, Starts, Learns, Joined, Signalled}
+use Rattle.kc_table_moves.specs.Views.{seat_seen_as}
 use Rattle.kc_table_moves.specs.declared.view.View.{View}
 use Rattle.kc_table_straight.proofs.kc_table_views.Beginnings.{begun_again}
 use Rattle.kc_table_straight.proofs.kc_table_views.Knowing.{gains_none, grows_on, owns_through}
@@ -92,15 +92,15 @@ module _ (o : Opening) (k : ℕ) (past pending : List Event) (s : Seat) (t : Tas
       waits_behind : (xs ys : List Event) → AllWait k (xs ++ Begin k p.begins.0 ∷ ys) → AllWait k ys
       waits_behind xs ys w = (waits_back k xs (Begin k p.begins.0 ∷ ys) w).1
 
-pub ready_begun : (me : Me Unit View) (began : Bool) (s : Seat) (z : TableId) (v : SeatView) (t : Task) → Ready me began s → seen_as z me began s ≡ v → Starts v t → IsWellMadeTask v.of.origin.locations t → KnowsReads v t → Ready me true (begun s t)
+pub ready_begun : (me : Me Unit View) (began : Bool) (s : Seat) (z : TableId) (v : SeatView) (t : Task) → ReadySeat me began s → seat_seen_as z me began s ≡ v → Starts v t → IsWellMadeTask v.of.origin.locations t → KnowsReads v t → ReadySeat me true (begun s t)
 ready_begun me began s z v t r e st m k =
-    let is = subst (λ (x : Me Unit View). seen_as z x began s ≡ v) r.is e in
+    let is = subst (λ (x : Me Unit View). seat_seen_as z x began s ≡ v) r.is e in
     let q = ap (λ (x : SeatView). x.of.origin) is in
     let st' = subst (λ (x : SeatView). Starts x t) (sym is) st in
     let p = pends_begun (opening_of r.origin) r.number r.past r.pending s t st'.0 st'.1 (subst (λ i. IsWellMadeTask i.locations t) (sym q) m) (subst (λ (x : SeatView). KnowsReads x t) (sym is) k) began r.pends in
     record { origin = r.origin; number = r.number; past = r.past; loads = r.loads; is = r.is; within = r.within; meant = r.meant; pending = p.0; pends = p.1 }
 
-pub ready_halted : (me : Me Unit View) (began : Bool) (s : Seat) → Ready me began s → Ready me began (halted s)
+pub ready_halted : (me : Me Unit View) (began : Bool) (s : Seat) → ReadySeat me began s → ReadySeat me began (halted s)
 ready_halted me began s r = record {
   origin = r.origin;
   number = r.number;
@@ -115,8 +115,8 @@ ready_halted me began s r = record {
 
 -- ---- a seat that comes to know more of what others did
 
-learned : (me after : Me Unit View) (began : Bool) (s : Seat) (r : Ready me began s) (others : List Event) → after ≡ (view me.0.origin (part r.number (r.past ++ others) (r.loads + 1) ∷ []) [], me.1) → NoneOf r.number others
-    → IsMeant (opening_of me.0.origin) (r.past ++ others) → Ready after began s
+learned : (me after : Me Unit View) (began : Bool) (s : Seat) (r : ReadySeat me began s) (others : List Event) → after ≡ (view me.0.origin (part r.number (r.past ++ others) (r.loads + 1) ∷ []) [], me.1) → NoneOf r.number others
+    → IsMeant (opening_of me.0.origin) (r.past ++ others) → ReadySeat after began s
 learned me after began s r others is none meant =
     let origin : me.0.origin ≡ r.origin = ap (λ (x : Me Unit View). x.0.origin) r.is in
     let carried : me.1 ≡ [] = ap (λ (x : Me Unit View). x.1) r.is in
@@ -134,7 +134,7 @@ learned me after began s r others is none meant =
     }
 
 -- a seat that owns nothing now owned nothing at its last step
-owned_before : (me : Me Unit View) (began : Bool) (s : Seat) (r : Ready me began s) → is_some (own_of s) ≡ false → OwnsNone (opening_of r.origin) r.number r.past
+owned_before : (me : Me Unit View) (began : Bool) (s : Seat) (r : ReadySeat me began s) → is_some (own_of s) ≡ false → OwnsNone (opening_of r.origin) r.number r.past
 owned_before me began s r none = go (is_some (own_of early)) refl
   where
     early : Seat
@@ -144,13 +144,13 @@ owned_before me began s r none = go (is_some (own_of early)) refl
     go false e = e
     go true e = let owns = ap (λ (x : Seat). is_some (own_of x)) r.pends.stands ∙ owns_through early r.pending e in absurd (cc)
 
-learned_view : (me after : Me Unit View) (began : Bool) (s : Seat) (z y : TableId) (v : SeatView) (r : Ready me began s) (others : List Event) → seen_as z me began s ≡ v → y ≡ z
-    → after ≡ (view me.0.origin (part r.number (r.past ++ others) (r.loads + 1) ∷ []) [], me.1) → NoneOf r.number others → IsMeant (opening_of me.0.origin) (r.past ++ others) → Learns v (seen_as y after began s)
+learned_view : (me after : Me Unit View) (began : Bool) (s : Seat) (z y : TableId) (v : SeatView) (r : ReadySeat me began s) (others : List Event) → seat_seen_as z me began s ≡ v → y ≡ z
+    → after ≡ (view me.0.origin (part r.number (r.past ++ others) (r.loads + 1) ∷ []) [], me.1) → NoneOf r.number others → IsMeant (opening_of me.0.origin) (r.past ++ others) → Learns v (seat_seen_as y after began s)
 learned_view me after began s z y v r others e same is none_of meant =
     let past : past_of after.0.parts ≡ r.past ++ others = ap (λ (a : Me Unit View). past_of a.0.parts) is in
     let was : past_of me.0.parts ≡ r.past = ap (λ (a : Me Unit View). past_of a.0.parts) r.is in
     let number : number_of me.0.parts ≡ r.number = ap (λ (a : Me Unit View). number_of a.0.parts) r.is in
-    subst (λ (u : SeatView). Learns u (seen_as y after began s)) e
+    subst (λ (u : SeatView). Learns u (seat_seen_as y after began s)) e
     (record {
       of = λ i. record { table = same i; origin = ap (λ (a : Me Unit View). a.0.origin) is i };
       number = ap (λ (a : Me Unit View). number_of a.0.parts) is ∙ sym number;
@@ -162,11 +162,11 @@ learned_view me after began s z y v r others e same is none_of meant =
           let origin : me.0.origin ≡ r.origin = ap (λ (x : Me Unit View). x.0.origin) r.is in
           let later : after.0.origin ≡ r.origin = ap (λ (a : Me Unit View). a.0.origin) is ∙ origin in
           let same = gains_none (opening_of r.origin) r.past others r.number (owned_before me began s r none) none_of in
-          (λ i. by (number i) (known (opening_of (later i)) (past i))) ∙ same ∙ (λ i. by (sym number i) (known (opening_of (sym origin i)) (sym was i)));
+          (λ i. placed_by (number i) (known (opening_of (later i)) (past i))) ∙ same ∙ (λ i. placed_by (sym number i) (known (opening_of (sym origin i)) (sym was i)));
     })
 
 -- by a note
-module _ (me mid after : Me Unit View) (began : Bool) (s : Seat) (r : Ready me began s) (ep : mid.0.parts ≡ me.0.parts) (eo : mid.0.origin ≡ me.0.origin) (ec : mid.1 ≡ me.1) (m : Merged mid after) where
+module _ (me mid after : Me Unit View) (began : Bool) (s : Seat) (r : ReadySeat me began s) (ep : mid.0.parts ≡ me.0.parts) (eo : mid.0.origin ≡ me.0.origin) (ec : mid.1 ≡ me.1) (m : Merged mid after) where
   parts : mid.0.parts ≡ part r.number r.past r.loads ∷ []
   parts = ep ∙ ap (λ (x : Me Unit View). x.0.parts) r.is
 
@@ -179,10 +179,10 @@ module _ (me mid after : Me Unit View) (began : Bool) (s : Seat) (r : Ready me b
   meant_after : IsMeant (opening_of me.0.origin) (r.past ++ others)
   meant_after = subst (λ q. IsMeant (opening_of q) (r.past ++ others)) eo (m r.number r.past r.loads parts).4
 
-  pub ready_merged : Ready after began s
+  pub ready_merged : ReadySeat after began s
   ready_merged = learned me after began s r others is_after (m r.number r.past r.loads parts).2 meant_after
 
-  pub joined_view : (z y : TableId) (v : SeatView) (note : NoteView) → seen_as z me began s ≡ v → y ≡ z → mid.0.heard ≡ note.past → Joined v note (seen_as y after began s)
+  pub joined_view : (z y : TableId) (v : SeatView) (note : TableNoteView) → seat_seen_as z me began s ≡ v → y ≡ z → mid.0.heard ≡ note.past → Joined v note (seat_seen_as y after began s)
   joined_view z y v note e same eh =
       let past : past_of after.0.parts ≡ r.past ++ others = ap (λ (a : Me Unit View). past_of a.0.parts) is_after in
       let learns = learned_view me after began s z y v r others e same is_after (m r.number r.past r.loads parts).2 meant_after in
@@ -204,7 +204,7 @@ module _ (me mid after : Me Unit View) (began : Bool) (s : Seat) (r : Ready me b
 -- ---- signals
 
 -- a seat is of its number
-pub ready_caller : (me : Me Unit View) (began : Bool) (s : Seat) → ((o : Opening) (es : List Event) → SeatsStay o (run o es)) → (r : Ready me began s) → s.caller ≡ r.number
+pub ready_caller : (me : Me Unit View) (began : Bool) (s : Seat) → ((o : Opening) (es : List Event) → SeatsStay o (run o es)) → (r : ReadySeat me began s) → s.caller ≡ r.number
 ready_caller me began s stay r =
     let o = opening_of r.origin in
     let is : (run o (r.past ++ r.pending)).seats r.number ≡ s = waits_seat o r.past r.pending r.number r.within r.pends.waits ∙ sym r.pends.stands in
@@ -214,20 +214,20 @@ bit_is : (b : Bool) (n : ℕ) → n ≡ signal_bit b → (n ≢ 0 → b ≡ true
 bit_is true n e = ((λ ne. refl), (λ z. let q : 1 ≡ 0 = sym e ∙ z in absurd (cc)))
 bit_is false n e = ((λ ne. absurd (ne e)), (λ z. refl))
 
-module _ (me after : Me Unit View) (began : Bool) (s : Seat) (i n : ℕ) (r : Ready me began s) (here : i ≡ place 0 (signal r.number)) (m : Heard i me n after) where
+module _ (me after : Me Unit View) (began : Bool) (s : Seat) (i n : ℕ) (r : ReadySeat me began s) (here : i ≡ place 0 (signal r.number)) (m : Heard i me n after) where
   own_parts : me.0.parts ≡ part r.number r.past r.loads ∷ []
   own_parts = ap (λ (x : Me Unit View). x.0.parts) r.is
 
   abbrev heard_others : List Event
   heard_others = (m r.number r.past r.loads own_parts here).0
 
-  pub ready_heard : Ready after began s
+  pub ready_heard : ReadySeat after began s
   ready_heard = let x = m r.number r.past r.loads own_parts here in learned me after began s r x.0 x.1 x.2 x.3
 
   pub heard_loads : loads_of after.0.parts ≡ loads_of me.0.parts + 1
   heard_loads = ap (λ (a : Me Unit View). loads_of a.0.parts) (m r.number r.past r.loads own_parts here).1 ∙ ap (λ (x : Me Unit View). loads_of x.0.parts + 1) (sym r.is)
 
-  pub heard_view : (z y : TableId) (v : SeatView) (answer : Bool) → seen_as z me began s ≡ v → y ≡ z → (n ≢ 0 → answer ≡ true) → (n ≡ 0 → answer ≡ false) → Signalled v answer (seen_as y after began s)
+  pub heard_view : (z y : TableId) (v : SeatView) (answer : Bool) → seat_seen_as z me began s ≡ v → y ≡ z → (n ≢ 0 → answer ≡ true) → (n ≡ 0 → answer ≡ false) → Signalled v answer (seat_seen_as y after began s)
   heard_view z y v answer e same if_so if_not =
       let x = m r.number r.past r.loads own_parts here in
       let past : past_of after.0.parts ≡ r.past ++ x.0 = ap (λ (a : Me Unit View). past_of a.0.parts) x.1 in

@@ -9,7 +9,7 @@ use Rattle.atomic_table.specs.Table as table
 use Rattle.kc_machine.specs.Machine.{Opening}
 use Rattle.kc_machine.specs.Seats.{own_of}
 use Rattle.kc_machine.specs.declared.seat.Seat.{Seat}
-use Rattle.kc_table_straight.specs.kc_machine_traces.Histories.{ending}
+use Rattle.kc_table_straight.specs.kc_machine_traces.Histories.{ending_store}
 use Rattle.kc_table_straight.specs.kc_machine_traces.Traces.{first_store}
 use Rattle.kc_machine_steps.specs.declared.task.Event.{Event}
 use Rattle.kc_table_straight.proofs.kc_machine_traces.Others.{others_leave}
@@ -21,7 +21,7 @@ use Rattle.kc_table_layout.specs.Cells.{place}
 use Rattle.kc_table_layout.specs.Cells.Cell.{word}
 use Rattle.kc_table_moves.specs.Origins.{Origin, opening_of}
 use Rattle.kc_table_moves.specs.Rule.{EachFits, Kept}
-use Rattle.kc_table_moves.specs.Views.{TableView, SeatView, ClosedView, AreAll, IsClosed, IsPart, Matches, numbers, count_from, seen_at, seen_in, seen_of}
+use Rattle.kc_table_moves.specs.Views.{TableView, SeatView, ClosedView, AreAll, IsClosed, IsPart, Matches, numbers, count_from, seen_cell_at, seen_in, seen_of}
 use Rattle.kc_table_moves.specs.declared.view.Part.{Part}
 use Rattle.kc_table_moves.specs.declared.view.View.{View}
 use Rattle.kc_table_straight.proofs.kc_table_views.Knowing.{plain_words}
@@ -54,7 +54,7 @@ closed z seats q st id v ws c same kept at matches all is size each =
       schedule = kept.schedule;
       past = record { origin = refl; meant = subst (λ x. IsMeant (opening_of x) kept.schedule) same past.meant; whole = subst (λ x. IsWhole (opening_of x) (known (opening_of x) kept.schedule)) same past.whole; parts = subst (λ x. All (IsPart (opening_of x) kept.schedule) seats) same past.parts };
       locations = size ∙ ap (λ (x : Origin). x.locations) same;
-      each = subst (λ x. (l : ℕ) → l < x.locations → slice_get c.seen l ≡ Some (seen_at l (ending (first_store (opening_of x)) (known (opening_of x) kept.schedule) l))) same (λ l b. each l b ∙ ap Some (says l b));
+      each = subst (λ x. (l : ℕ) → l < x.locations → slice_get c.seen l ≡ Some (seen_cell_at l (ending_store (first_store (opening_of x)) (known (opening_of x) kept.schedule) l))) same (λ l b. each l b ∙ ap Some (says l b));
     }
   where
     among : (k : ℕ) → k < q.callers → Contains (numbers seats) k
@@ -65,9 +65,9 @@ closed z seats q st id v ws c same kept at matches all is size each =
     all_none : (k : ℕ) → k < q.callers → OwnsNone (opening_of q) k kept.schedule
     all_none k b = let c = among k b in none_owned (opening_of q) kept.schedule v.parts seats k c.0 (kept.views id v at).parts matches c.1 c.2
 
-    says : (l : ℕ) → l < q.locations → seen_in ws l ≡ seen_at l (ending (first_store (opening_of q)) (known (opening_of q) kept.schedule) l)
+    says : (l : ℕ) → l < q.locations → seen_in ws l ≡ seen_cell_at l (ending_store (first_store (opening_of q)) (known (opening_of q) kept.schedule) l)
     says l b =
-        let cell = ending (first_store (opening_of q)) (known (opening_of q) kept.schedule) l in
+        let cell = ending_store (first_store (opening_of q)) (known (opening_of q) kept.schedule) l in
         let plain = plain_words (opening_of q) kept.schedule kept.meant all_none l b in
         let fits : IsPackable (Plain cell.version cell.value) = subst IsPackable plain (kept.fits (word l) b) in
         let bits : slice_index ws (place 0 (word l)) ≡ packed (Plain cell.version cell.value) =

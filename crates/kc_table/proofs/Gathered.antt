@@ -9,9 +9,9 @@ use Rattle.kc_machine.specs.Seats.{is_idle}
 use Rattle.kc_machine.specs.declared.seat.Seat.{Seat}
 use Rattle.kc_machine_steps.specs.declared.task.Event.{Event}
 use Rattle.kc_table_moves.specs.Origins.{Origin, opening_of}
-use Rattle.kc_table_moves.specs.Rule.{number_of, past_of, part, Fits, EachFits, Ready}
+use Rattle.kc_table_moves.specs.Rule.{number_of, past_of, part, Fits, EachFits, ReadySeat}
 use Rattle.kc_table_moves.specs.Views.{TableView, SeatView, Matches, IsPart, IsPast, AreAll}
-use Rattle.kc_table_moves.specs.Views.{seen_as}
+use Rattle.kc_table_moves.specs.Views.{seat_seen_as}
 use Rattle.kc_table_moves.specs.declared.view.Part.{Part}
 use Rattle.kc_table_moves.specs.declared.view.View.{View}
 use Rattle.kc_table_straight.proofs.kc_table_views.Knowing.{idle_owns_none, knows_a_part, whole}
@@ -24,7 +24,7 @@ matches-more o (q ∷ ps) [] p s m e f n = absurd m
 matches-more o (q ∷ ps) (x ∷ ss) p s m e f n = (m.0, m.1, m.2, matches-more o ps ss p s m.3 e f n)
 
 -- an idle seat's part has its number and its past, and owned nothing
-pub ready_part : (q : Origin) (me : Me Unit View) (began : Bool) (s : Seat) (z : TableId) (ps : List Part) (ss : List SeatView) (v : SeatView) → Ready me began s → seen_as z me began s ≡ v → me.0.origin ≡ q → is_idle v.seat.work ≡ true
+pub ready_part : (q : Origin) (me : Me Unit View) (began : Bool) (s : Seat) (z : TableId) (ps : List Part) (ss : List SeatView) (v : SeatView) → ReadySeat me began s → seat_seen_as z me began s ≡ v → me.0.origin ≡ q → is_idle v.seat.work ≡ true
     → Matches (opening_of q) ps ss → Matches (opening_of q) (ps ++ me.0.parts) (ss ++ v ∷ [])
 ready_part q me began s z ps ss v r e from idle m =
     let is : me.0.parts ≡ part r.number r.past r.loads ∷ [] = ap (λ (x : Me Unit View). x.0.parts) r.is in

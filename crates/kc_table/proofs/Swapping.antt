@@ -5,7 +5,7 @@ use borrow.Author.Tests.{eqb-true}
 use Rattle.atomic_table.specs.Seated.{TableId}
 use Rattle.atomic_table.specs.Table.{Me}
 use Rattle.kc_machine.specs.Machine.{run}
-use Rattle.kc_machine.specs.Seats.{access_of, answer_of, begun, is_idle}
+use Rattle.kc_machine.specs.Seats.{access_of, seat_answered, begun, is_idle}
 use Rattle.kc_machine.specs.declared.seat.Seat.{Seat}
 use Rattle.kc_machine_steps.specs.Swaps.{exchange, may_swap, seen_word, word_after}
 use Rattle.kc_machine_steps.specs.declared.task.Task.TheVariants as task
@@ -20,7 +20,7 @@ use Rattle.kc_model.specs.Word.{IsPackable, packed}
 use Rattle.kc_model.specs.declared.footprint.Seen.{Seen}
 use Rattle.kc_model.specs.declared.word.Word.{Word}
 use Rattle.kc_model.specs.declared.word.Word.TheVariants.{Plain, Ref}
-use Rattle.kc_table.specs.Swaps.{puts}
+use Rattle.kc_table.specs.Swaps.{swap_puts}
 use Rattle.kc_table_layout.specs.Cells.{base_of, cell_of, place}
 use Rattle.kc_table_layout.specs.Changes.{change_of, word_change}
 use Rattle.kc_table_layout.specs.declared.change.Change.{Change}
@@ -31,12 +31,12 @@ use Rattle.kc_table_moves.proofs.Steps.{fewer_loads, ready_glanced, stepped_late
 use Rattle.kc_table_moves.specs.declared.view.TheConstants.{MOST_LOADS}
 use Rattle.kc_table_moves.specs.Atoms.{Aims}
 use Rattle.kc_table_moves.specs.Origins.{Origin, opening_of}
-use Rattle.kc_table_moves.specs.Rule.{Moved, MovedWithin, glanced, Ready, number_of, past_of}
-use Rattle.kc_table_moves.specs.Views.{Ran, SeatView, StepsTo, further, here, seen_as}
+use Rattle.kc_table_moves.specs.Rule.{Moved, MovedWithin, glanced, ReadySeat, number_of, past_of}
+use Rattle.kc_table_moves.specs.Views.{Ran, SeatView, StepsTo, further, here, seat_seen_as}
 use Rattle.kc_table_moves.specs.declared.view.View.{View}
 
 -- a swap that finds this word puts its own: it is what was seen
-pub puts_seen : (calls : ℕ) (r : Seen) (w : Word) → puts calls r w ≡ true → (w ≡ seen_word r) × (may_swap calls ≡ true)
+pub puts_seen : (calls : ℕ) (r : Seen) (w : Word) → swap_puts calls r w ≡ true → (w ≡ seen_word r) × (may_swap calls ≡ true)
 puts_seen calls r (Ref g d k) e = absurd (cc)
 puts_seen calls r (Plain v x) e =
     let a = both ((v == r.version) && (x == r.value)) (may_swap calls) e in
@@ -73,7 +73,7 @@ module _ (s : Seat) (r : Seen) (after : ℕ) (idle : is_idle s.work ≡ true) wh
   -- ---- where it has put
 
   abbrev pub second : Seat
-  second = answer_of first (found.Word (seen_word r))
+  second = seat_answered first (found.Word (seen_word r))
 
   module _ (low : may_swap s.calls ≡ true) where
     v_same : (r.version == r.version) ≡ true
@@ -96,43 +96,43 @@ module _ (s : Seat) (r : Seen) (after : ℕ) (idle : is_idle s.work ≡ true) wh
 module _ (s : Seat) (r : Seen) (after : ℕ) (idle : is_idle s.work ≡ true) (me later : Me Unit View) (n : ℕ) (w : Word) (m : Moved (first s r after idle) true me n later) (back : (x : Word) → IsPackable x → packed x ≡ n → w ≡ x) where
   -- behind its first step
   abbrev pub one : Seat
-  one = answer_of (first s r after idle) (found.Word w)
+  one = seat_answered (first s r after idle) (found.Word w)
 
   pub first_stands : (u : Seat) → u ≡ one → u ≡ (run (opening_of me.0.origin) (past_of later.0.parts)).seats (number_of me.0.parts)
   first_stands u e = answered (first s r after idle) u true me later n (access.Location r.loc (exchange r after s.calls)) (found.Word w) m (swap_accesses s r after idle) (λ v fits f. ap found.Word (back (v.word r.loc.0) fits f)) e
 
-  pub first_ready : (u : Seat) → Ready me true (first s r after idle) → u ≡ one → Ready later false u
+  pub first_ready : (u : Seat) → ReadySeat me true (first s r after idle) → u ≡ one → ReadySeat later false u
   first_ready u ready e = ready_after (first s r after idle) u true me later n ready m (first_stands u e)
 
   module _ (z y : TableId) (same : y ≡ z) where
     abbrev start : SeatView
-    start = seen_as z me true (first s r after idle)
+    start = seat_seen_as z me true (first s r after idle)
 
-    pub first_steps : (u : Seat) → u ≡ one → StepsTo start (seen_as y later false u)
-    first_steps u e = further start (seen_as y later false u) here (swap_busy s r after idle) (stepped_view start true (first s r after idle) u me later z y n refl same m (first_stands u e))
+    pub first_steps : (u : Seat) → u ≡ one → StepsTo start (seat_seen_as y later false u)
+    first_steps u e = further start (seat_seen_as y later false u) here (swap_busy s r after idle) (stepped_view start true (first s r after idle) u me later z y n refl same m (first_stands u e))
 
-    pub told_at_once : (began : Bool) (v : SeatView) (u : Seat) → seen_as z me began s ≡ v → u ≡ one → Ran v (task.Swap r after) (seen_as y later false u)
-    told_at_once began v u shown e = subst (λ x. Ran x (task.Swap r after) (seen_as y later false u)) shown (record { steps = first_steps u e; shown = refl })
+    pub told_at_once : (began : Bool) (v : SeatView) (u : Seat) → seat_seen_as z me began s ≡ v → u ≡ one → Ran v (task.Swap r after) (seat_seen_as y later false u)
+    told_at_once began v u shown e = subst (λ x. Ran x (task.Swap r after) (seat_seen_as y later false u)) shown (record { steps = first_steps u e; shown = refl })
 
 -- ---- where it has put
 
 module _ (s : Seat) (r : Seen) (after : ℕ) (idle : is_idle s.work ≡ true) (low : may_swap s.calls ≡ true) (mid later : Me Unit View) (n : ℕ) (m : MovedWithin 1 (second s r after idle) false mid n later) where
   -- behind its wake
   abbrev pub two : Seat
-  two = answer_of (second s r after idle) (found.Callers n)
+  two = seat_answered (second s r after idle) (found.Callers n)
 
   pub wake_stands : (u : Seat) → u ≡ two → u ≡ (run (opening_of mid.0.origin) (past_of later.0.parts)).seats (number_of mid.0.parts)
   wake_stands u e = answered (second s r after idle) u false (glanced m.0 mid) later n (access.Awaiters r.loc bits.TakeAll) (found.Callers n) m.2 (wake_accesses s r after idle low) (λ v fits f. ap found.Callers (sym f)) e
 
-  pub wake_ready : (u : Seat) → Ready mid false (second s r after idle) → u ≡ two → Ready later false u
+  pub wake_ready : (u : Seat) → ReadySeat mid false (second s r after idle) → u ≡ two → ReadySeat later false u
   wake_ready u ready e = ready_after (second s r after idle) u false (glanced m.0 mid) later n (ready_glanced m.0 mid false (second s r after idle) ready) m.2 (wake_stands u e)
 
   pub told_behind : (z x y : TableId) (me : Me Unit View) (k : ℕ) (began : Bool) (v : SeatView) (u : Seat) → x ≡ z → y ≡ x → (f : Moved (first s r after idle) true me k mid) → ((w : Word) → IsPackable w → packed w ≡ k → seen_word r ≡ w)
-      → seen_as z me began s ≡ v → u ≡ two → Ran v (task.Swap r after) (seen_as y later false u)
+      → seat_seen_as z me began s ≡ v → u ≡ two → Ran v (task.Swap r after) (seat_seen_as y later false u)
   told_behind z x y me k began v u same equal f back shown e =
-      subst (λ a. Ran a (task.Swap r after) (seen_as y later false u)) shown
+      subst (λ a. Ran a (task.Swap r after) (seat_seen_as y later false u)) shown
       (record {
-        steps = further (seen_as x mid false (second s r after idle)) (seen_as y later false u) (first_steps s r after idle me mid k (seen_word r) f back z x same (second s r after idle) refl) (wake_busy s r after idle low)
-            (stepped_late (seen_as x mid false (second s r after idle)) false (second s r after idle) u mid later x y n refl equal (fewer_loads 1 MOST_LOADS (second s r after idle) false mid later n (omega arith) m) (wake_stands u e));
+        steps = further (seat_seen_as x mid false (second s r after idle)) (seat_seen_as y later false u) (first_steps s r after idle me mid k (seen_word r) f back z x same (second s r after idle) refl) (wake_busy s r after idle low)
+            (stepped_late (seat_seen_as x mid false (second s r after idle)) false (second s r after idle) u mid later x y n refl equal (fewer_loads 1 MOST_LOADS (second s r after idle) false mid later n (omega arith) m) (wake_stands u e));
         shown = refl;
       })

@@ -4,7 +4,7 @@ use Rattle.std.specs.Option.{is_some}
 use Rattle.kc_machine.specs.Machine.{run}
 use Rattle.kc_machine.specs.Seats.{own_of}
 use Rattle.kc_machine.specs.declared.seat.Seat.{Seat}
-use Rattle.kc_table_straight.specs.kc_machine_traces.Entries.{by}
+use Rattle.kc_table_straight.specs.kc_machine_traces.Entries.{placed_by}
 use Rattle.kc_table_straight.specs.kc_machine_traces.Parts.{NoneOf}
 use Rattle.kc_table_moves.specs.Origins.{opening_of}
 use Rattle.kc_table_moves.specs.Views.{SeatView, Learns, Signalled, knows}
@@ -24,7 +24,7 @@ learns_on s t u a b = record {
   seat = b.seat ∙ a.seat;
   on = (a.on.0 ++ b.on.0, b.on.1 ∙ ap (λ l. l ++ b.on.0) a.on.1 ∙ append_assoc s.past a.on.0 b.on.0, none_append s.number a.on.0 b.on.0 a.on.2 (subst (λ n. NoneOf n b.on.0) a.number b.on.2));
   meant = subst (λ q. IsMeant (opening_of q) u.past) (ap (λ z. z.origin) a.of) b.meant;
-  own = λ none. subst (λ n. by n (knows u) ≡ by n (knows t)) a.number (b.own (ap (λ (x : Seat). is_some (own_of x)) a.seat ∙ none)) ∙ a.own none;
+  own = λ none. subst (λ n. placed_by n (knows u) ≡ placed_by n (knows t)) a.number (b.own (ap (λ (x : Seat). is_some (own_of x)) a.seat ∙ none)) ∙ a.own none;
 }
 
 pub waited_more : (s t u : SeatView) (b : Bool) → Waited s t → Signalled t b u → Waited s u

@@ -11,17 +11,17 @@ use Rattle.kc_model.specs.declared.word.Word.{Word}
 use Rattle.kc_model.specs.declared.word.Word.TheVariants.{Plain, Ref}
 
 -- whether a swap that finds this word puts its own
-abbrev pub puts : ℕ → Seen → Word → Bool
-puts calls r (Plain v x) = ((v == r.version) && (x == r.value)) && may_swap calls
-puts calls r (Ref g d k) = false
+abbrev pub swap_puts : ℕ → Seen → Word → Bool
+swap_puts calls r (Plain v x) = ((v == r.version) && (x == r.value)) && may_swap calls
+swap_puts calls r (Ref g d k) = false
 
 -- a swap that has put its word and owes signals
-abbrev pub step_owes : SwapStep → Bool
-step_owes (swap.Signal owed) = true
-step_owes _ = false
+abbrev pub swap_step_owes : SwapStep → Bool
+swap_step_owes (swap.Signal owed) = true
+swap_step_owes _ = false
 
 abbrev pub work_owes : Work → Bool
-work_owes (work.Swap x) = step_owes x.step
+work_owes (work.Swap x) = swap_step_owes x.step
 work_owes _ = false
 
 abbrev pub OwesSignals : Seat → Type 0

@@ -24,9 +24,9 @@ pub struct Past {
 }
 
 impl Model for Past {
-    ghost use Rattle.kc_table_moves.specs.Views.{PastView};
+    ghost use Rattle.kc_table_moves.specs.Views.{TablePastView};
 
-    ghost Value = { PastView };
+    ghost Value = { TablePastView };
 
     ghost view = { λ p. record { origin = p.token.me.0.origin; schedule = p.token.me.0.heard } };
 }

@@ -1,7 +1,7 @@
 //! A table and its seats as they are made.
 
 ghost use Rattle.std.specs.Prelude.{◌≡◌, IfOk, []};
-ghost use Rattle.kc_table_moves.specs.Origins.{Opens};
+ghost use Rattle.kc_table_moves.specs.Origins.{OriginOpens};
 ghost use Rattle.kc_table_moves.specs.Rule.{everyone};
 ghost use Rattle.kc_table_moves.specs.Views.{opened_seats};
 
@@ -13,7 +13,7 @@ use kc_table_moves::{Origin, Token, Words};
 use std::alloc::{AllocError, Global};
 
 pub(crate) fn make_table(alloc: Global, origin: &Origin) -> Result<(KcTable, Token), AllocError>
-    requires { Opens origin.now }
+    requires { OriginOpens origin.now }
     ensures { IfOk result (λ t. (t.0.origin ≡ origin.now) × (t.1.table_id ≡ t.0.table) × (t.1.me ≡ (everyone origin.now, []))) }
 {
     let (words, first) = Words::open(alloc, origin)?;
@@ -27,7 +27,7 @@ pub(crate) fn deal_seats(
     first: Token,
     callers: u32,
 ) -> Result<Vec<KcSeat>, AllocError>
-    requires { (first.table_id ≡ table.now.table) × (first.me ≡ (everyone table.now.origin, [])) × (callers ≡ table.now.origin.callers) × Opens table.now.origin }
+    requires { (first.table_id ≡ table.now.table) × (first.me ≡ (everyone table.now.origin, [])) × (callers ≡ table.now.origin.callers) × OriginOpens table.now.origin }
     ensures { IfOk result (λ seats. seats.items ≡ opened_seats table.now 0 callers) }
 {
     let mut first = first;

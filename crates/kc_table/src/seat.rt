@@ -3,7 +3,7 @@
 ghost use Rattle.std.specs.Prelude.{◌≡◌, not, true};
 ghost use Rattle.kc_machine_steps.specs.declared.task.Task.TheVariants as task;
 ghost use Rattle.kc_machine.specs.Schedules.{IsWellMadeTask};
-ghost use Rattle.kc_machine.specs.Seats.{begun, halted, is_idle, own_of, steps_of, told_of};
+ghost use Rattle.kc_machine.specs.Seats.{begun, halted, is_idle, own_of, steps_of, last_told};
 ghost use Rattle.kc_table_moves.specs.Views.{KnowsReads, Starts};
 
 use arrayvec::ArrayVec;
@@ -33,13 +33,13 @@ pub struct KcSeat {
 
 impl Model for KcSeat {
     ghost use Rattle.kc_table_moves.specs.Views.{SeatView};
-    ghost use Rattle.kc_table_moves.specs.Rule.{Ready, loads_of, number_of, past_of};
+    ghost use Rattle.kc_table_moves.specs.Rule.{ReadySeat, loads_of, number_of, past_of};
 
     ghost Value = { SeatView };
 
     ghost view = { λ s. record { of = record { table = s.token.table_id; origin = s.token.me.0.origin }; number = number_of s.token.me.0.parts; past = past_of s.token.me.0.parts; began = s.began; seat = s.machine; loads = loads_of s.token.me.0.parts } };
 
-    ghost invariant = { λ s. Ready s.token.me s.began s.machine };
+    ghost invariant = { λ s. ReadySeat s.token.me s.began s.machine };
 }
 
 impl KcSeat {
@@ -91,7 +91,7 @@ impl KcSeat {
 
     /// What it was told; None exactly while a task runs or none was begun.
     pub fn told(&self) -> Option<Told>
-        ensures { result ≡ told_of self.now.seat }
+        ensures { result ≡ last_told self.now.seat }
     {
         self.machine.told()
     }
@@ -129,12 +129,12 @@ pub struct KcNote {
 
 impl Model for KcNote {
     ghost use Rattle.std.specs.Prelude.{◌≡◌, []};
-    ghost use Rattle.kc_table_moves.specs.Views.{NoteView};
-    ghost use Rattle.kc_table_moves.specs.Rule.{note_view};
+    ghost use Rattle.kc_table_moves.specs.Views.{TableNoteView};
+    ghost use Rattle.kc_table_moves.specs.Rule.{noted_view};
 
-    ghost Value = { NoteView };
+    ghost Value = { TableNoteView };
 
     ghost view = { λ s. record { of = record { table = s.token.table_id; origin = s.token.me.0.origin }; past = s.token.me.0.heard } };
 
-    ghost invariant = { λ s. s.token.me ≡ (note_view s.token.me.0.origin s.token.me.0.heard, []) };
+    ghost invariant = { λ s. s.token.me ≡ (noted_view s.token.me.0.origin s.token.me.0.heard, []) };
 }

@@ -8,14 +8,14 @@ ghost use Rattle.kc_machine_words.specs.declared.access.Found.TheVariants as fou
 ghost use Rattle.kc_machine_steps.specs.Swaps.{may_swap, seen_word, word_after};
 ghost use Rattle.kc_machine_steps.specs.declared.task.Task.TheVariants as task;
 ghost use Rattle.kc_machine.specs.Schedules.{IsWellMadeTask};
-ghost use Rattle.kc_machine.specs.Seats.{answer_of, begun, is_idle};
+ghost use Rattle.kc_machine.specs.Seats.{seat_answered, begun, is_idle};
 ghost use Rattle.kc_table_layout.specs.Cells.{place};
 ghost use Rattle.kc_table_layout.specs.Cells.Cell.{word};
 ghost use Rattle.kc_table_layout.specs.declared.change.Change.TheVariants as change;
 ghost use Rattle.kc_table_moves.specs.Atoms.{Aims, Here, leaves};
-ghost use Rattle.kc_table_moves.specs.Rule.{Moved, MovedWithin, Ready};
+ghost use Rattle.kc_table_moves.specs.Rule.{Moved, MovedWithin, ReadySeat};
 ghost use Rattle.kc_table_moves.specs.Views.{KnowsReads, Ran};
-ghost use Rattle.kc_table.specs.Swaps.{OwesSignals, puts};
+ghost use Rattle.kc_table.specs.Swaps.{OwesSignals, swap_puts};
 
 use crate::seat::KcSeat;
 use crate::table::KcTable;
@@ -86,7 +86,7 @@ fn may_swap(calls: u64) -> bool
 // Whether a swap that finds this word puts its own.
 #[inline(always)]
 fn puts(calls: u64, seen: Seen, now: Word) -> bool
-    ensures { result ≡ puts calls seen now }
+    ensures { result ≡ swap_puts calls seen now }
 {
     match now {
         Word::Plain { version, value } => {
@@ -134,7 +134,7 @@ fn try_word<B: Now>(
     at: usize,
 ) -> u64
     requires here { Here words.now.key words.now.table_id base token.old.table_id token.old.me }
-    requires ready { (is_idle B.now.work ≡ false) × Ready token.old.me B.began B.now }
+    requires ready { (is_idle B.now.work ≡ false) × ReadySeat token.old.me B.began B.now }
     requires idle { is_idle seat.now.work ≡ true }
     requires now { B.now ≡ begun seat.now (task.Swap seen after) }
     requires below { seen.version < LAST_VERSION }
@@ -163,7 +163,7 @@ fn wake<B: Asks>(
     at: usize,
 ) -> u64
     requires here { Here words.now.key words.now.table_id base token.old.table_id token.old.me }
-    requires ready { (is_idle B.now.work ≡ false) × Ready token.old.me B.began B.now }
+    requires ready { (is_idle B.now.work ≡ false) × ReadySeat token.old.me B.began B.now }
     requires aim { Aims words.now.key B.now at (change.Swap 0) }
     requires takes { (n : ℕ) → B.takes n ≡ leaves B.now n }
     ensures table { token.new.table_id ≡ token.old.table_id }
@@ -176,7 +176,7 @@ fn wake<B: Asks>(
 #[cold]
 #[inline(never)]
 fn tell(seat: &mut Seat, seen: Seen, after: u32, now: Word)
-    ensures { seat.new ≡ answer_of (begun seat.old (task.Swap seen after)) (found.Word now) }
+    ensures { seat.new ≡ seat_answered (begun seat.old (task.Swap seen after)) (found.Word now) }
 {
     seat.begin(&Task::Swap { seen, after });
     seat.answer(&Found::Word(now));
@@ -186,7 +186,7 @@ fn tell(seat: &mut Seat, seen: Seen, after: u32, now: Word)
 fn end_swap(seat: &mut Seat, seen: Seen, after: u32)
     requires idle { is_idle seat.old.work ≡ true }
     requires low { may_swap seat.old.calls ≡ true }
-    ensures { seat.new ≡ answer_of (answer_of (begun seat.old (task.Swap seen after)) (found.Word (seen_word seen))) (found.Callers 0) }
+    ensures { seat.new ≡ seat_answered (seat_answered (begun seat.old (task.Swap seen after)) (found.Word (seen_word seen))) (found.Callers 0) }
 {
     let _ = after;
     let made = one_more(one_more(seat.steps()));
@@ -198,7 +198,7 @@ fn end_swap(seat: &mut Seat, seen: Seen, after: u32)
 #[cold]
 #[inline(never)]
 fn owe(seat: &mut Seat, seen: Seen, after: u32, owed: u64)
-    ensures { seat.new ≡ answer_of (answer_of (begun seat.old (task.Swap seen after)) (found.Word (seen_word seen))) (found.Callers owed) }
+    ensures { seat.new ≡ seat_answered (seat_answered (begun seat.old (task.Swap seen after)) (found.Word (seen_word seen))) (found.Callers owed) }
 {
     seat.begin(&Task::Swap { seen, after });
     seat.answer(&Found::Word(Word::Plain {

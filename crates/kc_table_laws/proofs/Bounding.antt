@@ -6,7 +6,7 @@ use borrow.Author.Tests.{ltb-false, ltb-true}
 use Rattle.kc_table_laws.proofs.kc_machine.Functions.{put_here}
 use Rattle.kc_table_laws.specs.kc_machine.Machine.{Opening, State, World, found_at, pool_size, possible, run, touched}
 use Rattle.kc_table_laws.specs.kc_machine.Schedules.{IsSchedule}
-use Rattle.kc_table_laws.specs.kc_machine.Seats.{access_of, after, answer_by, answer_of, is_idle, work_access}
+use Rattle.kc_table_laws.specs.kc_machine.Seats.{access_of, seat_after, answer_by, seat_answered, is_idle, work_access}
 use Rattle.kc_table_laws.specs.kc_machine.Works as work
 use Rattle.kc_table_laws.specs.kc_machine.Works.{Work}
 use Rattle.kc_table_laws.specs.kc_machine.declared.seat.Seat.{Seat}
@@ -22,7 +22,7 @@ use Rattle.kc_table_laws.specs.kc_machine_commits.declared.commit.OwnStep.{OwnSt
 use Rattle.kc_table_laws.specs.kc_machine_commits.declared.commit.Stage.TheVariants.{Own, Scan, Take}
 use Rattle.kc_table_laws.specs.kc_machine_commits.declared.commit.Stage.{Stage}
 use Rattle.kc_table_laws.proofs.kc_machine_invariants.PoolLaws.{holds_counted}
-use Rattle.kc_table_laws.specs.kc_machine_invariants.Claims.{IsWorn}
+use Rattle.kc_table_laws.specs.kc_machine_invariants.Claims.{DescriptorIsWorn}
 use Rattle.kc_table_laws.specs.kc_machine_invariants.Holds.{holds_on, sum_below}
 use Rattle.kc_table_laws.specs.kc_machine_invariants.Stands as stands
 use Rattle.kc_table_laws.specs.kc_machine_invariants.Stands.{resting, stand, works}
@@ -77,26 +77,26 @@ unaiding w0 w s (worn is t e) = ap begins_aid is
 unaiding w0 w s (ends a is t e) = ap begins_aid is
 
 -- either some descriptor has a life left, or none has
-pub lives_or_worn : (w : World) (n : ℕ) → ((d : ℕ) × (d < n) × ((w.control d).generation < LAST_GENERATION)) ⊎ ((d : ℕ) → d < n → IsWorn w d)
+pub lives_or_worn : (w : World) (n : ℕ) → ((d : ℕ) × (d < n) × ((w.control d).generation < LAST_GENERATION)) ⊎ ((d : ℕ) → d < n → DescriptorIsWorn w d)
 lives_or_worn w zero = inr (λ d l. absurd (omega (arith, l)))
 lives_or_worn w (suc n) = go (nat_lt (w.control n).generation LAST_GENERATION) refl (lives_or_worn w n)
   where
-    go : (b : Bool) → nat_lt (w.control n).generation LAST_GENERATION ≡ b → ((d : ℕ) × (d < n) × ((w.control d).generation < LAST_GENERATION)) ⊎ ((d : ℕ) → d < n → IsWorn w d)
-        → ((d : ℕ) × (d < suc n) × ((w.control d).generation < LAST_GENERATION)) ⊎ ((d : ℕ) → d < suc n → IsWorn w d)
+    go : (b : Bool) → nat_lt (w.control n).generation LAST_GENERATION ≡ b → ((d : ℕ) × (d < n) × ((w.control d).generation < LAST_GENERATION)) ⊎ ((d : ℕ) → d < n → DescriptorIsWorn w d)
+        → ((d : ℕ) × (d < suc n) × ((w.control d).generation < LAST_GENERATION)) ⊎ ((d : ℕ) → d < suc n → DescriptorIsWorn w d)
     go true e h = inl (n, omega arith, ltb-true (w.control n).generation LAST_GENERATION e)
     go false e (inl (d, l, g)) = inl (d, omega (arith, l), g)
     go false e (inr h) = inr (λ d l. by d l (nat_lt d n) refl)
       where
-        by : (d : ℕ) → d < suc n → (b : Bool) → nat_lt d n ≡ b → IsWorn w d
+        by : (d : ℕ) → d < suc n → (b : Bool) → nat_lt d n ≡ b → DescriptorIsWorn w d
         by d l true q = h d (ltb-true d n q)
         by d l false q =
             let a = ltb-false d n q in
             let same : n ≡ d = omega (arith, a, l) in
-            subst (IsWorn w) same (ltb-false (w.control n).generation LAST_GENERATION e)
+            subst (DescriptorIsWorn w) same (ltb-false (w.control n).generation LAST_GENERATION e)
 
 -- who searches holds nothing
 searching_holds : (s : Seat) (c : Commit) (d v y : ℕ) → s.work ≡ work.Commit c → c.stage ≡ Scan d v → holds_on y (stand s) ≡ 0
-searching_holds s c d v y is at = ap (λ x. holds_on y (works (resting s) x)) is ∙ ap (λ x. holds_on y (stands.commits (record (resting s) { halted = c.halted }) c.intent c.copy x)) at
+searching_holds s c d v y is at = ap (λ x. holds_on y (works (resting s) x)) is ∙ ap (λ x. holds_on y (stands.stand_commits (record (resting s) { halted = c.halted }) c.intent c.copy x)) at
 
 -- ---- a search that finds all worn
 
@@ -104,7 +104,7 @@ data ScansOn (n : ℕ) : Next → Type 0 where
   on : (e : ℕ) → n + 1 < 4 → ScansOn n (next.Goes (Scan e (n + 1)))
   off : ScansOn n (next.Tells told.Worn)
 
-scans_on : (w : World) (ds d n : ℕ) → ds ≡ 4 → IsWorn w d → ScansOn n (scan_next ds d n (found.Control (w.control d)))
+scans_on : (w : World) (ds d n : ℕ) → ds ≡ 4 → DescriptorIsWorn w d → ScansOn n (scan_next ds d n (found.Control (w.control d)))
 scans_on w ds d n e last = go (nat_lt (w.control d).generation LAST_GENERATION) ((w.control d).holds == 0) (nat_lt n (ds - 1)) refl refl
   where
     go : (a b c : Bool) → nat_lt (w.control d).generation LAST_GENERATION ≡ a → nat_lt n (ds - 1) ≡ c
@@ -121,11 +121,11 @@ data Scanning (w0 w : World) (s : Seat) (n : ℕ) : Type 0 where
 plus_one : (n : ℕ) → n + 1 ≡ suc n
 plus_one n = omega arith
 
-scan_moves : (w0 w : World) (s : Seat) (c : Commit) (n : ℕ) → w ≡ w0 → (x : Next) → ScansOn n x → Scanning w0 w (after (record s { work = work.Commit (gone_on c x) }) (onward_by x)) (suc n)
+scan_moves : (w0 w : World) (s : Seat) (c : Commit) (n : ℕ) → w ≡ w0 → (x : Next) → ScansOn n x → Scanning w0 w (seat_after (record s { work = work.Commit (gone_on c x) }) (onward_by x)) (suc n)
 scan_moves w0 w s c n same _ (on e l) = scanning (record c { stage = Scan e (n + 1) }) e refl (ap (Scan e) (plus_one n)) (omega (arith, l)) same
 scan_moves w0 w s c n same _ off = over refl
 
-scan_answers : (w0 w : World) (s : Seat) (c : Commit) (d n : ℕ) → s.work ≡ work.Commit c → c.stage ≡ Scan d n → w ≡ w0 → s.descriptors ≡ 4 → IsWorn w d → Scanning w0 (touched w (access_of s)) (answer_of s (found_at w (access_of s))) (suc n)
+scan_answers : (w0 w : World) (s : Seat) (c : Commit) (d n : ℕ) → s.work ≡ work.Commit c → c.stage ≡ Scan d n → w ≡ w0 → s.descriptors ≡ 4 → DescriptorIsWorn w d → Scanning w0 (touched w (access_of s)) (seat_answered s (found_at w (access_of s))) (suc n)
 scan_answers w0 w s c d n is at same e last =
     let c' : Commit = record c { stage = Scan d n } in
     let is' : s.work ≡ work.Commit c' = is ∙ (λ i. work.Commit (record c { stage = at i })) in
@@ -171,10 +171,10 @@ module _ (o : Opening) (sole : o.callers ≡ 1) (k : ℕ) (within : k < o.caller
       still : is_idle (S n).work ≡ true → Stands w0 (M n).world (S n) → Stands w0 (M (suc n)).world (S (suc n))
       still i x = subst (λ (m : State). Stands w0 m.world (m.seats k)) (sym (idle_next n i)) x
 
-      on : is_idle (S n).work ≡ false → Stands w0 (touched (M n).world (access_of (S n))) (answer_of (S n) (found_at (M n).world (access_of (S n)))) → Stands w0 (M (suc n)).world (S (suc n))
+      on : is_idle (S n).work ≡ false → Stands w0 (touched (M n).world (access_of (S n))) (seat_answered (S n) (found_at (M n).world (access_of (S n)))) → Stands w0 (M (suc n)).world (S (suc n))
       on busy x =
           let e = ap (run o) (next_alone base k n) ∙ steps_happen o (at_list n) (made_at n) k within busy in
-          subst (λ (m : State). Stands w0 m.world (m.seats k)) (sym e) (subst (Stands w0 (touched (M n).world (access_of (S n)))) (sym (put_here (M n).seats k (answer_of (S n) (found_at (M n).world (access_of (S n)))))) x)
+          subst (λ (m : State). Stands w0 m.world (m.seats k)) (sym e) (subst (Stands w0 (touched (M n).world (access_of (S n)))) (sym (put_here (M n).seats k (seat_answered (S n) (found_at (M n).world (access_of (S n)))))) x)
 
       go : Stands w0 (M n).world (S n) → Stands w0 (M (suc n)).world (S (suc n))
       go (searches c is o' e) = on (ap is_idle is) (moved o (at_list n) (made_at n) sole k within w0 c is (λ _. e) (unowned_aids c.stage o'))
@@ -211,7 +211,7 @@ module _ (o : Opening) (sole : o.callers ≡ 1) (k : ℕ) (within : k < o.caller
 
   -- ---- where none can
 
-  module _ (none : (d : ℕ) → d < pool_size o.callers → IsWorn w0 d) where
+  module _ (none : (d : ℕ) → d < pool_size o.callers → DescriptorIsWorn w0 d) where
     scans_at : Scanning w0 w0 ((run o base).seats k) 0 → (n : ℕ) → Scanning w0 (M n).world (S n) n
     scans_at b zero = subst (λ l. Scanning w0 (run o l).world ((run o l).seats k) 0) (sym (none_yet base k)) b
     scans_at b (suc n) = go (scans_at b n)
@@ -220,8 +220,8 @@ module _ (o : Opening) (sole : o.callers ≡ 1) (k : ℕ) (within : k < o.caller
         go (scanning c d is at l same) =
             let e = ap (run o) (next_alone base k n) ∙ steps_happen o (at_list n) (made_at n) k within (ap is_idle is) in
             let there : d < pool_size o.callers = subst (StageSearches (pool_size o.callers)) at (subst (WorkSearches (pool_size o.callers)) is (searches_in_range o (at_list n) k within)) in
-            let x = scan_answers w0 (M n).world (S n) c d n is at same ((seats_stay o (at_list n) k).1 ∙ ap pool_size sole) (subst (λ y. IsWorn y d) (sym same) (none d there)) in
-            subst (λ (m : State). Scanning w0 m.world (m.seats k) (suc n)) (sym e) (subst (λ z. Scanning w0 (touched (M n).world (access_of (S n))) z (suc n)) (sym (put_here (M n).seats k (answer_of (S n) (found_at (M n).world (access_of (S n)))))) x)
+            let x = scan_answers w0 (M n).world (S n) c d n is at same ((seats_stay o (at_list n) k).1 ∙ ap pool_size sole) (subst (λ y. DescriptorIsWorn y d) (sym same) (none d there)) in
+            subst (λ (m : State). Scanning w0 m.world (m.seats k) (suc n)) (sym e) (subst (λ z. Scanning w0 (touched (M n).world (access_of (S n))) z (suc n)) (sym (put_here (M n).seats k (seat_answered (S n) (found_at (M n).world (access_of (S n)))))) x)
         go (over i) = over (ap (λ (m : State). is_idle (m.seats k).work) (idle_next n i) ∙ i)
 
     worn_ends : Scanning w0 w0 ((run o base).seats k) 0 → (j : ℕ) → is_idle (S j).work ≡ false → j < 4
@@ -249,7 +249,7 @@ module _ (o : Opening) (sole : o.callers ≡ 1) (k : ℕ) (within : k < o.caller
           holds_counted o base y ∙ ap (sum_below (λ j. holds_on y (stand ((run o base).seats j)))) (callers ∙ sole)
           ∙ (let h : holds_on y (stand ((run o base).seats 0)) ≡ 0 = subst (λ i. holds_on y (stand ((run o base).seats i)) ≡ 0) first (searching_holds ((run o base).seats k) c d 0 y is at) in omega (arith, h))
 
-      go : ((d : ℕ) × (d < pool_size o.callers) × ((w0.control d).generation < LAST_GENERATION)) ⊎ ((d : ℕ) → d < pool_size o.callers → IsWorn w0 d) → j < stretch 1 MOST
+      go : ((d : ℕ) × (d < pool_size o.callers) × ((w0.control d).generation < LAST_GENERATION)) ⊎ ((d : ℕ) → d < pool_size o.callers → DescriptorIsWorn w0 d) → j < stretch 1 MOST
       go (inl (e, l, g)) =
           let n = descriptors in
           free_ends (searches c is (ap owned at) refl) (ap is_idle is) (e, omega (arith, l, n), unheld e, g) j busy

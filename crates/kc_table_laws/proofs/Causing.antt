@@ -31,14 +31,14 @@ use Rattle.kc_model.specs.declared.footprint.Seen.{Seen}
 use Rattle.kc_table_moves.specs.Origins.{opening_of}
 use Rattle.kc_table_moves.specs.Views.{Learns, SeatView, Stepped, opening_at_seat}
 use Rattle.kc_table_laws.proofs.Wearing.{worn_on}
-use Rattle.kc_table_laws.specs.Tasks.{Does}
-use Rattle.kc_table_laws.specs.Told.{Hears, IsWornOut, listening, shadow}
+use Rattle.kc_table_laws.specs.Tasks.{DoesTask}
+use Rattle.kc_table_laws.specs.Told.{HearsAll, IsWornOut, listening, shadow}
 use Rattle.kc_table_moves.proofs.kc_table_views.Pendings.{none_begins, nothing_push}
 use Rattle.kc_table_moves.specs.kc_table_views.Known.{IsMeant}
 use Rattle.kc_table_moves.specs.kc_table_views.Tasks.{ran}
 
 -- what others do leaves a task that has made a step
-pub does_learned : (v u w : SeatView) (t : Task) → Does v t u → Learns u w → Does v t w
+pub does_learned : (v u w : SeatView) (t : Task) → DoesTask v t u → Learns u w → DoesTask v t w
 does_learned v u w t d l =
     let o = opening_at_seat v in
     let k = v.number in
@@ -83,7 +83,7 @@ worn_load v w l f =
 
 -- ---- what a task was told
 
-module _ (v w : SeatView) (t : Task) (d : Does v t w) where
+module _ (v w : SeatView) (t : Task) (d : DoesTask v t w) where
   abbrev o : Opening
   o = opening_at_seat v
 
@@ -112,21 +112,21 @@ module _ (v w : SeatView) (t : Task) (d : Does v t w) where
       let l = d.runs.within in
       now (λ o k. IsWornOut o w.past) (λ e b. let c = z.1 in let n = z.2 in worn_true o w.past k e (omega arith) (sym (ap (λ (s : Seat). s.told) d.seat) ∙ said) (omega arith))
 
-  pub blocked_hears : w.seat.blocked ≡ true → Hears w (shadow w).blocking
+  pub blocked_hears : w.seat.blocked ≡ true → HearsAll w (shadow w).blocking
   blocked_hears b = now (λ o k. IsAwake (run o w.past) k ⊎ EachOf (IsCovered o w.past k) ((trace o w.past).shadows k).blocking) (blocked_covered o w.past made k d.runs.within (sym (ap (λ (s : Seat). s.blocked) d.seat) ∙ b))
 
 only_light : (m : Mode) (x : Line) → is_installed m x ≡ false → m ≡ Light
 only_light All x e = absurd (cc)
 only_light Light x e = refl
 
-pub crossed_so : (v w : SeatView) (i : ℕ) (f : Footprint) (m : Mode) → Does v (task.Commit f m) w → w.seat.told ≡ Some (told.Crossed i) → (m ≡ Light) × CrossedSince (opening_at_seat w) w.past w.number m (lines_of f) i
+pub crossed_so : (v w : SeatView) (i : ℕ) (f : Footprint) (m : Mode) → DoesTask v (task.Commit f m) w → w.seat.told ≡ Some (told.Crossed i) → (m ≡ Light) × CrossedSince (opening_at_seat w) w.past w.number m (lines_of f) i
 crossed_so v w i f m d said =
     let t = task.Commit f m in
     let c = crosses_caused (o v w t d) w.past (made v w t d) v.number i f m d.runs.within (asked v w t d) (sym (ap (λ (s : Seat). s.told) d.seat) ∙ said) in
     (only_light m c.3.line c.3.compares, now v w t d (λ o k. CrossedSince o w.past k m (lines_of f) i) c)
 
 module _ (v w : SeatView) (reads : List Seen) where
-  module _ (d : Does v (task.Hang (record { items = reads })) w) where
+  module _ (d : DoesTask v (task.Hang (record { items = reads })) w) where
     abbrev t : Task
     t = task.Hang (record { items = reads })
 
@@ -143,13 +143,13 @@ module _ (v w : SeatView) (reads : List Seen) where
         now v w t d (λ o k. ReadMoved o w.past ((trace o w.past).shadows k).listening reads i)
         (changed_moved (o v w t d) w.past (made v w t d) v.number i reads d.runs.within (asked v w t d) (sym (ap (λ (s : Seat). s.told) d.seat) ∙ said))
 
-    pub hung_hears : w.seat.told ≡ Some told.Hung → (w.seat.blocked ≡ true) × Hears w reads
+    pub hung_hears : w.seat.told ≡ Some told.Hung → (w.seat.blocked ≡ true) × HearsAll w reads
     hung_hears said =
         let h = hung_by said in
         let b : w.seat.blocked ≡ true = ap (λ (s : Seat). s.blocked) d.seat ∙ h.0 in
-        (b, subst (Hears w) (now v w t d (λ o k. ((trace o w.past).shadows k).blocking ≡ reads) h.1) (blocked_hears v w t d b))
+        (b, subst (HearsAll w) (now v w t d (λ o k. ((trace o w.past).shadows k).blocking ≡ reads) h.1) (blocked_hears v w t d b))
 
-  pub left_free : Does v (task.Leave (record { items = reads })) w → w.seat.told ≡ Some told.Free → (w.seat.blocked ≡ false) × ((r : Seen) → Contains reads r → has_bit ((run (opening_at_seat w) w.past).world.awaiters r.loc.0) w.number ≡ false)
+  pub left_free : DoesTask v (task.Leave (record { items = reads })) w → w.seat.told ≡ Some told.Free → (w.seat.blocked ≡ false) × ((r : Seen) → Contains reads r → has_bit ((run (opening_at_seat w) w.past).world.awaiters r.loc.0) w.number ≡ false)
   left_free d said =
       let t = task.Leave (record { items = reads }) in
       let f = freed (o v w t d) w.past (made v w t d) v.number reads d.runs.within (asked v w t d) (sym (ap (λ (s : Seat). s.told) d.seat) ∙ said) in

@@ -11,7 +11,7 @@ use Rattle.kc_table_laws.specs.kc_machine_traces.Claims.{HasPut, steps}
 use Rattle.kc_table_laws.specs.kc_machine_commits.Commits.{intent_of}
 use Rattle.kc_table_laws.specs.kc_machine_commits.declared.commit.Commit.{Commit}
 use Rattle.kc_table_laws.specs.kc_machine_commits.declared.commit.Stage.TheVariants.{Scan}
-use Rattle.kc_table_laws.specs.kc_machine_invariants.Claims.{IsWorn}
+use Rattle.kc_table_laws.specs.kc_machine_invariants.Claims.{DescriptorIsWorn}
 use Rattle.kc_table_laws.proofs.kc_machine_history.Filters.{found}
 use Rattle.kc_table_laws.specs.kc_machine_steps.Aids.{no_copy}
 use Rattle.kc_table_laws.specs.kc_machine_steps.Lines.{lines_of}
@@ -19,7 +19,7 @@ use Rattle.kc_table_laws.specs.kc_machine_steps.declared.task.Task.TheVariants a
 use Rattle.kc_table_laws.specs.kc_machine_steps.declared.task.Task.{Task}
 use Rattle.kc_table_laws.specs.kc_machine_steps.declared.task.Told.TheVariants as told
 use Rattle.kc_table_laws.specs.kc_machine_steps.declared.task.Told.{Told}
-use Rattle.kc_table_laws.specs.kc_machine_traces.Entries.{by}
+use Rattle.kc_table_laws.specs.kc_machine_traces.Entries.{placed_by}
 use Rattle.kc_table_laws.specs.kc_machine_traces.Outcomes.{GainsAsTold}
 use Rattle.kc_table_laws.specs.kc_machine_words.declared.words.Mode.TheVariants.{All, Light}
 use Rattle.kc_model.specs.Store.{Finds}
@@ -33,7 +33,7 @@ use Rattle.kc_table_laws.proofs.Keeping.{failure_known, own_known, put_past}
 use Rattle.kc_table_laws.proofs.Running.{does_ran}
 use Rattle.kc_table_laws.proofs.Stopping.{free_ran}
 use Rattle.kc_table_laws.proofs.Wearing.{stays_undecided}
-use Rattle.kc_table_laws.specs.Tasks.{Does}
+use Rattle.kc_table_laws.specs.Tasks.{DoesTask}
 use Rattle.kc_table_laws.specs.Told.{IsUndecided}
 use Rattle.kc_table_laws.proofs.Alone.{Along, along}
 use Rattle.kc_table_laws.proofs.Bounding.{bounded, stands_at}
@@ -81,11 +81,11 @@ module _ (v w : SeatView) (f : Footprint) (r : Ran v (task.Commit f All) w) (sol
   -- ---- at its end
 
   module _ (made : IsWellMadeTask v.of.origin.locations t) (finds : Finds f (standing v)) (ended : is_idle w.seat.work ≡ true) where
-    does : Does v t w
+    does : DoesTask v t w
     does = does_ran v w t starts made r
 
-    gained : (a : Told) → w.seat.told ≡ Some a → GainsAsTold k t (Some a) (by k (knows v)) (by k (knows w))
-    gained a e = subst (λ y. GainsAsTold k t y (by k (knows v)) (by k (knows w))) e (own_known v w t does ended)
+    gained : (a : Told) → w.seat.told ≡ Some a → GainsAsTold k t (Some a) (placed_by k (knows v)) (placed_by k (knows w))
+    gained a e = subst (λ y. GainsAsTold k t y (placed_by k (knows v)) (placed_by k (knows w))) e (own_known v w t does ended)
 
     unfailed : (i : ℕ) → w.seat.told ≡ Some (told.Failed i) → ⊥
     unfailed i e =
@@ -117,7 +117,7 @@ module _ (v w : SeatView) (f : Footprint) (r : Ran v (task.Commit f All) w) (sol
     worn_out : w.seat.told ≡ Some told.Worn → HasNoLife v
     worn_out e =
         let y = worn_found v w t does e in
-        λ d l. subst (λ (z : World). IsWorn z d) (words e) (y d (let c = ap (λ (z : TableView). z.origin.callers) does.of in omega (arith, l, c)))
+        λ d l. subst (λ (z : World). DescriptorIsWorn z d) (words e) (y d (let c = ap (λ (z : TableView). z.origin.callers) does.of in omega (arith, l, c)))
 
     lives : (m : ℕ) → w.seat.told ≡ Some (told.Succeeded m) → ¬ HasNoLife v
     lives m e y = go (subst IsUndecided e (stays_undecided v w f All does y))

@@ -9,7 +9,7 @@ use Rattle.kc_machine_progress.specs.kc_machine_steps.declared.task.Event.TheVar
 use Rattle.kc_machine_progress.specs.kc_machine_steps.declared.task.Task.{Task}
 use Rattle.kc_machine_progress.proofs.kc_machine_traces.Others.{others_leave}
 use Rattle.kc_machine_progress.specs.kc_machine_traces.Moments.{BeginsNothing}
-use Rattle.kc_table_laws.specs.Tasks.{Does}
+use Rattle.kc_table_laws.specs.Tasks.{DoesTask}
 use Rattle.kc_table_moves.specs.Origins.{opening_of}
 use Rattle.kc_table_moves.specs.Views.{SeatView, Starts, Stepped, opening_at_seat}
 use Rattle.kc_table_moves.proofs.kc_table_views.Knowing.{owned_none}
@@ -62,7 +62,7 @@ module _ (v w : SeatView) (t : Task) (st : Starts v t) (made : IsWellMadeTask v.
       waits_seat o (v.past ++ others) one.before k s.steps.within (waits_front k one.before (Begin k t ∷ one.behind) (subst (AllWait k) one.is pends.waits))
       ∙ ap (λ y. applied y one.before) (others_leave o v.past others k s.steps.none)
 
-  pub does_begin : Does v t w
+  pub does_begin : DoesTask v t w
   does_begin = record {
     of = s.of;
     number = s.number;
@@ -84,11 +84,11 @@ module _ (v w : SeatView) (t : Task) (st : Starts v t) (made : IsWellMadeTask v.
     };
   }
 
-pub does_first : (v u w : SeatView) (t : Task) → Starts v t → IsWellMadeTask v.of.origin.locations t → u ≡ record v { seat = begun v.seat t; began = true } → Stepped u w → Does v t w
+pub does_first : (v u w : SeatView) (t : Task) → Starts v t → IsWellMadeTask v.of.origin.locations t → u ≡ record v { seat = begun v.seat t; began = true } → Stepped u w → DoesTask v t w
 does_first v u w t st made e s = does_begin v w t st made (subst (λ (x : SeatView). Stepped x w) e s)
 
 -- a further step
-pub does_further : (v u w : SeatView) (y : Seat) (t : Task) → Does v t u → u.began ≡ false → Stepped (record u { seat = y }) w → Does v t w
+pub does_further : (v u w : SeatView) (y : Seat) (t : Task) → DoesTask v t u → u.began ≡ false → Stepped (record u { seat = y }) w → DoesTask v t w
 does_further v u w y t d old s =
     let x = s.steps in
     let k = v.number in

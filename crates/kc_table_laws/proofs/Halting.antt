@@ -6,7 +6,7 @@ use Rattle.std.proofs.Math.Nat.{pow-le-pow_right}
 use Rattle.std.proofs.lemmas.Option.{slice_get_within}
 use borrow.Author.Tests.{eqb-false}
 use Rattle.kc_machine_progress.specs.kc_machine.Machine.{Opening, World, found_at}
-use Rattle.kc_machine_progress.specs.kc_machine.Seats.{access_of, after, answer_by, answer_of, ended, halted, halted_by, is_idle, work_access}
+use Rattle.kc_machine_progress.specs.kc_machine.Seats.{access_of, seat_after, answer_by, seat_answered, seat_halted, halted, halted_by, is_idle, work_access}
 use Rattle.kc_machine_progress.specs.kc_machine.Works.{Work}
 use Rattle.kc_machine_progress.specs.kc_machine.Works as work
 use Rattle.kc_machine_progress.specs.kc_machine.declared.seat.Seat.{Seat}
@@ -38,7 +38,7 @@ use Rattle.kc_model.specs.declared.footprint.Line.{Line}
 use Rattle.kc_model.specs.declared.footprint.TheConstants.{MOST}
 use Rattle.kc_machine_progress.specs.kc_machine_steps.declared.line.Pick.TheVariants.{Installed, Put}
 use Rattle.kc_machine_progress.specs.kc_machine_steps.Swaps as swaps
-use Rattle.kc_machine_progress.specs.kc_machine_steps.Swaps.{ends_at_once, onward_of, swap_access, swaps_on}
+use Rattle.kc_machine_progress.specs.kc_machine_steps.Swaps.{ends_at_once, onward_of_swap, swap_access, swaps_on}
 use Rattle.kc_machine_progress.specs.kc_machine_steps.declared.swap.Swap.{Swap}
 use Rattle.kc_machine_progress.specs.kc_machine_steps.declared.swap.SwapNext.TheVariants as swapping
 use Rattle.kc_machine_progress.specs.kc_machine_steps.declared.swap.SwapStep.{SwapStep}
@@ -115,7 +115,7 @@ IsSent s = (is_idle s.work ≡ true) ⊎ (is_halted s ≡ true)
 pub halt_sends : (s : Seat) → may_halt s.work ≡ true → IsSent (halted s)
 halt_sends s = go s.work refl
   where
-    looks : (l : Look) (step : LookStep) → IsSent (if halts_at_once step then ended s else record s { work = work.Look (look_halted_at l step) })
+    looks : (l : Look) (step : LookStep) → IsSent (if halts_at_once step then seat_halted s else record s { work = work.Look (look_halted_at l step) })
     looks l look.Load = inl refl
     looks l (look.Hold r) = inl refl
     looks l (look.Status r) = inr refl
@@ -123,12 +123,12 @@ halt_sends s = go s.work refl
     looks l (look.Second r p f) = inr refl
     looks l (look.Drop r stray seen) = inr refl
 
-    commits : (c : Commit) (x : Stage) → IsSent (if unowned x then ended s else record s { work = work.Commit (halted_at c x) })
+    commits : (c : Commit) (x : Stage) → IsSent (if unowned x then seat_halted s else record s { work = work.Commit (halted_at c x) })
     commits c (Scan d worn) = inl refl
     commits c (Take d g) = inl refl
     commits c (Own h step) = inr (own_sent step)
 
-    swaps : (b : Bool) → not b ≡ work_ends s.work → IsSent (if b then ended s else s)
+    swaps : (b : Bool) → not b ≡ work_ends s.work → IsSent (if b then seat_halted s else s)
     swaps true q = inl refl
     swaps false q = inr (sym q)
 
@@ -382,10 +382,10 @@ module _ (o : Opening) (w : World) (s : Seat) (stands : Stands o s) where
   callers_few : 2 ^ o.callers ≤ 2 ^ 64
   callers_few = pow-le-pow_right (omega arith) stands.callers
 
-  look_ends : (l : Look) (x : Work) (n : LookNext) → l.halted ≡ true → Ends 1 (after (record s { work = x }) (told_by l.halted n))
+  look_ends : (l : Look) (x : Work) (n : LookNext) → l.halted ≡ true → Ends 1 (seat_after (record s { work = x }) (told_by l.halted n))
   look_ends l x n e = go l.halted e
     where
-      go : (b : Bool) → b ≡ true → Ends 1 (after (record s { work = x }) (told_by b n))
+      go : (b : Bool) → b ≡ true → Ends 1 (seat_after (record s { work = x }) (told_by b n))
       go true e = inl refl
       go false e = absurd (cc)
 
@@ -405,16 +405,16 @@ module _ (o : Opening) (w : World) (s : Seat) (stands : Stands o s) where
       stages (Take d x) f g r e = absurd (cc)
       stages (Own h step) f g r e = own_falls w s.descriptors s.caller s.calls c few h step f g.1 (signals_in step r.1) e
 
-      go : (x : Next) → NextEnds c.halted (stage_left c.stage) x → Ends (stage_left c.stage) (after (record s { work = work.Commit (gone_on (loaded c there) x) }) (onward_by x))
+      go : (x : Next) → NextEnds c.halted (stage_left c.stage) x → Ends (stage_left c.stage) (seat_after (record s { work = work.Commit (gone_on (loaded c there) x) }) (onward_by x))
       go (next.Goes x) y = inr y
       go (next.Takes x) y = absurd y
       go (next.Tells t) y = inl refl
 
   -- a swap is told where it owes none, and goes on where it owes fewer
-  swap_owes : (x : Swap) (owed old : ℕ) → (owed ≢ 0 → 64 - count_trailing_zeros 64 owed + 1 < old) → let n = swaps.owed_next s.calls owed in Ends old (after (record s { work = work.Swap (swaps_on x n) }) (onward_of n))
+  swap_owes : (x : Swap) (owed old : ℕ) → (owed ≢ 0 → 64 - count_trailing_zeros 64 owed + 1 < old) → let n = swaps.swap_owed_next s.calls owed in Ends old (seat_after (record s { work = work.Swap (swaps_on x n) }) (onward_of_swap n))
   swap_owes x owed old few = go (owed == 0) refl
     where
-      go : (b : Bool) → (owed == 0) ≡ b → let n = if b then swapping.Tells (told.Succeeded s.calls) else swapping.Goes (swap.Signal owed) in Ends old (after (record s { work = work.Swap (swaps_on x n) }) (onward_of n))
+      go : (b : Bool) → (owed == 0) ≡ b → let n = if b then swapping.Tells (told.Succeeded s.calls) else swapping.Goes (swap.Signal owed) in Ends old (seat_after (record s { work = work.Swap (swaps_on x n) }) (onward_of_swap n))
       go true e = inl refl
       go false e = inr (refl, few (eqb-false owed 0 e))
 
@@ -427,7 +427,7 @@ module _ (o : Opening) (w : World) (s : Seat) (stands : Stands o s) where
       let low = lowest_low owed l g in
       swap_owes (record x { step = swap.Signal owed }) (bit_and owed (owed - 1)) (64 - count_trailing_zeros 64 owed + 1) (λ ne. let u = lowest_rises owed l ne in let a = u.1 in omega (arith, a, low))
 
-  pub seat_ends : is_halted s ≡ true → Ends (steps_left s) (answer_of s (found_at w (access_of s)))
+  pub seat_ends : is_halted s ≡ true → Ends (steps_left s) (seat_answered s (found_at w (access_of s)))
   seat_ends = go s.work stands.fits stands.formed stands.intents stands.ranges
     where
       go : (x : Work) → WorkFits x → WorkIsFormed s.calls s.blocked x → IntentIsMade o.locations x → WorkIn o x → work_ends x ≡ true → Ends (work_left x) (answer_by s (found_at w (work_access s.caller s.calls x)) x)

@@ -18,14 +18,14 @@ use Rattle.kc_machine_progress.specs.kc_machine.Works.{Work}
 use Rattle.kc_machine_progress.specs.kc_machine.Works as work
 use Rattle.kc_machine_progress.specs.kc_machine.declared.seat.Seat.{Seat}
 use Rattle.kc_machine_progress.specs.kc_machine_traces.Claims.{HasPut}
-use Rattle.kc_machine_progress.specs.kc_machine_traces.Histories.{Grows, History, IsAmong, IsKnown, Placed, ending, here, later, none}
+use Rattle.kc_machine_progress.specs.kc_machine_traces.Histories.{Grows, History, IsAmong, IsKnown, Placed, ending_store, here, later, none}
 use Rattle.kc_machine_progress.specs.kc_machine_traces.Traces.{first_store}
 use Rattle.kc_table_moves.proofs.kc_machine_history.Put.{puts_past}
 use Rattle.kc_machine_progress.proofs.kc_machine_traces.Joins.{made_parts, honest_parts}
 use Rattle.kc_machine_progress.proofs.kc_machine_traces.Others.{history_kept}
-use Rattle.kc_machine_progress.specs.kc_machine_traces.Entries.{by}
+use Rattle.kc_machine_progress.specs.kc_machine_traces.Entries.{placed_by}
 use Rattle.kc_machine_progress.specs.kc_machine_traces.Outcomes.{GainsAsTold}
-use Rattle.kc_table_laws.specs.Tasks.{Does, Keeps, Saw}
+use Rattle.kc_table_laws.specs.Tasks.{DoesTask, KeepsKnown, Saw}
 use Rattle.kc_table_moves.specs.Origins.{opening_of}
 use Rattle.kc_table_moves.specs.Views.{SeatView, Learns, Stepped, knows, opening_at_seat}
 use Rattle.kc_table_laws.specs.Halts.{may_halt}
@@ -33,10 +33,10 @@ use Rattle.kc_table_moves.proofs.kc_table_views.Knowing.{grows_on, known_on, ver
 use Rattle.kc_table_moves.proofs.kc_table_views.Pendings.{waits_no_step}
 use Rattle.kc_table_moves.proofs.kc_table_views.Taught.{failure_taught, look_taught, own_as_told, success_taught, swap_failure_taught, swap_success_taught}
 use Rattle.kc_table_moves.specs.kc_table_views.Known.{IsMeant, known}
-use Rattle.kc_table_moves.specs.kc_table_views.Tasks.{FailureTaught, SuccessTaught, put_of, ran}
+use Rattle.kc_table_moves.specs.kc_table_views.Tasks.{FailureTaught, SuccessTaught, put_by_swap, ran}
 
 -- a seat whose schedule goes on
-goes_on : (v w : SeatView) (more : List Event) → w.of ≡ v.of → w.number ≡ v.number → w.past ≡ v.past ++ more → IsMeant (opening_at_seat v) w.past → Keeps v w
+goes_on : (v w : SeatView) (more : List Event) → w.of ≡ v.of → w.number ≡ v.number → w.past ≡ v.past ++ more → IsMeant (opening_at_seat v) w.past → KeepsKnown v w
 goes_on v w more of number past meant =
     let o = opening_at_seat v in
     let m : IsMeant o (v.past ++ more) = subst (IsMeant o) past meant in
@@ -47,17 +47,17 @@ goes_on v w more of number past meant =
       number = number;
       grows = subst (Grows (knows v)) h (grows_on o v.past more m);
       reads = λ r k. subst (λ x. IsKnown (first_store x) (knows w) r) (sym s) (subst (λ x. IsKnown (first_store o) x r) h (known_on o v.past more m r k));
-      versions = λ l. subst (λ x. (ending (first_store o) (knows v) l).version ≤ (ending (first_store x) (knows w) l).version) (sym s)
-          (subst (λ x. (ending (first_store o) (knows v) l).version ≤ (ending (first_store o) x l).version) h (versions_on o v.past more m l));
+      versions = λ l. subst (λ x. (ending_store (first_store o) (knows v) l).version ≤ (ending_store (first_store x) (knows w) l).version) (sym s)
+          (subst (λ x. (ending_store (first_store o) (knows v) l).version ≤ (ending_store (first_store o) x l).version) h (versions_on o v.past more m l));
     }
 
-pub steps_keep : (v w : SeatView) → Stepped v w → Keeps v w
+pub steps_keep : (v w : SeatView) → Stepped v w → KeepsKnown v w
 steps_keep v w s =
     let x = s.steps in
     goes_on v w (x.others ++ (x.pending ++ Step v.number ∷ [])) s.of s.number
     (x.is ∙ append_assoc (v.past ++ x.others) x.pending (Step v.number ∷ []) ∙ append_assoc v.past x.others (x.pending ++ Step v.number ∷ [])) x.meant
 
-pub loads_keep : (v w : SeatView) → Learns v w → Keeps v w
+pub loads_keep : (v w : SeatView) → Learns v w → KeepsKnown v w
 loads_keep v w l = goes_on v w l.on.0 l.of l.number l.on.1 l.meant
 
 calm_owns_none : (x : Work) → may_halt x ≡ false → is_some (own_of_work x) ≡ false
@@ -69,12 +69,12 @@ calm_owns_none (work.Leave l) e = refl
 calm_owns_none (work.Swap l) e = absurd (cc)
 
 -- a seat that hangs, leaves or runs no task learns no own entry
-pub own_stays : (v w : SeatView) → Learns v w → may_halt v.seat.work ≡ false → by w.number (knows w) ≡ by v.number (knows v)
-own_stays v w l calm = ap (λ n. by n (knows w)) l.number ∙ l.own (calm_owns_none v.seat.work calm)
+pub own_stays : (v w : SeatView) → Learns v w → may_halt v.seat.work ≡ false → placed_by w.number (knows w) ≡ placed_by v.number (knows v)
+own_stays v w l calm = ap (λ n. placed_by n (knows w)) l.number ∙ l.own (calm_owns_none v.seat.work calm)
 
 -- ---- tasks
 
-module _ (v w : SeatView) (t : Task) (d : Does v t w) where
+module _ (v w : SeatView) (t : Task) (d : DoesTask v t w) where
   abbrev o : Opening
   o = opening_at_seat v
 
@@ -102,17 +102,17 @@ module _ (v w : SeatView) (t : Task) (d : Does v t w) where
   grows_before : Grows (knows v) (known o before)
   grows_before = subst (λ x. Grows (knows v) (known o x)) (sym before_is) (grows_on o v.past between (subst (IsMeant o) before_is meant_before))
 
-  no_lower : (l : ℕ) → (ending (first_store o) (knows v) l).version ≤ (ending (first_store o) (known o before) l).version
-  no_lower l = subst (λ x. (ending (first_store o) (knows v) l).version ≤ (ending (first_store o) (known o x) l).version) (sym before_is) (versions_on o v.past between (subst (IsMeant o) before_is meant_before) l)
+  no_lower : (l : ℕ) → (ending_store (first_store o) (knows v) l).version ≤ (ending_store (first_store o) (known o before) l).version
+  no_lower l = subst (λ x. (ending_store (first_store o) (knows v) l).version ≤ (ending_store (first_store o) (known o x) l).version) (sym before_is) (versions_on o v.past between (subst (IsMeant o) before_is meant_before) l)
 
   -- of its own entries it gains none until it begins
-  none_between : by v.number (known o before) ≡ by v.number (knows v)
-  none_between = ap (by v.number) (history_kept o (v.past ++ d.others) d.halts (waits_no_step v.number d.halts d.waits)) ∙ gains_none o v.past d.others v.number d.owned_none d.none
+  none_between : placed_by v.number (known o before) ≡ placed_by v.number (knows v)
+  none_between = ap (placed_by v.number) (history_kept o (v.past ++ d.others) d.halts (waits_no_step v.number d.halts d.waits)) ∙ gains_none o v.past d.others v.number d.owned_none d.none
 
   seat_is : (run o (ran v.number t before d.rest)).seats v.number ≡ w.seat
   seat_is = ap (λ es. (run o es).seats v.number) (sym d.past) ∙ sym d.seat
 
-pub looks_saw : (v w : SeatView) (l : Loc) (r : Seen) → Does v (task.Look l) w → w.seat.told ≡ Some (told.Seen r) → Saw v l r w
+pub looks_saw : (v w : SeatView) (l : Loc) (r : Seen) → DoesTask v (task.Look l) w → w.seat.told ≡ Some (told.Seen r) → Saw v l r w
 looks_saw v w l r d said =
     let t = task.Look l in
     let x = look_taught (o v w t d) v.number l r (before v w t d) d.rest d.runs (ap (λ (s : Seat). s.told) (seat_is v w t d) ∙ said) in
@@ -124,13 +124,13 @@ looks_saw v w l r d said =
       no_lower = omega arith;
     }
 
-pub own_known : (v w : SeatView) (t : Task) → Does v t w → is_idle w.seat.work ≡ true → GainsAsTold v.number t w.seat.told (by v.number (knows v)) (by v.number (knows w))
+pub own_known : (v w : SeatView) (t : Task) → DoesTask v t w → is_idle w.seat.work ≡ true → GainsAsTold v.number t w.seat.told (placed_by v.number (knows v)) (placed_by v.number (knows w))
 own_known v w t d idle =
     let k = v.number in
     let g = own_as_told (o v w t d) k t (before v w t d) d.rest d.runs (ap (λ (s : Seat). is_idle s.work) (seat_is v w t d) ∙ idle) in
-    subst (λ (s : Seat). GainsAsTold k t s.told (by k (knows v)) (by k (knows w))) (seat_is v w t d)
-    (subst (λ h. GainsAsTold k t ((run (o v w t d) (ran k t (before v w t d) d.rest)).seats k).told h (by k (knows w))) (none_between v w t d)
-    (subst (λ h. GainsAsTold k t ((run (o v w t d) (ran k t (before v w t d) d.rest)).seats k).told (by k (known (o v w t d) (before v w t d))) (by k h)) (list_is v w t d) g))
+    subst (λ (s : Seat). GainsAsTold k t s.told (placed_by k (knows v)) (placed_by k (knows w))) (seat_is v w t d)
+    (subst (λ h. GainsAsTold k t ((run (o v w t d) (ran k t (before v w t d) d.rest)).seats k).told h (placed_by k (knows w))) (none_between v w t d)
+    (subst (λ h. GainsAsTold k t ((run (o v w t d) (ran k t (before v w t d) d.rest)).seats k).told (placed_by k (known (o v w t d) (before v w t d))) (placed_by k h)) (list_is v w t d) g))
 
 -- ---- commits
 
@@ -140,29 +140,29 @@ all_among P none q = All-nil P
 all_among P (here {x = x} {a = a} {b = b} g) q = All-cons P x a (All-head P x b q) (all_among P g (All-tail P x b q))
 all_among P (later {x = x} {b = b} g) q = all_among P g (All-tail P x b q)
 
-pub success_known : (v w : SeatView) (n : ℕ) (f : Footprint) (m : Mode) → Does v (task.Commit f m) w → w.seat.told ≡ Some (told.Succeeded n) → SuccessTaught v.number n f m (knows v) (knows w)
+pub success_known : (v w : SeatView) (n : ℕ) (f : Footprint) (m : Mode) → DoesTask v (task.Commit f m) w → w.seat.told ≡ Some (told.Succeeded n) → SuccessTaught v.number n f m (knows v) (knows w)
 success_known v w n f m d said =
     let t = task.Commit f m in
     let x = success_taught (o v w t d) v.number n f m (before v w t d) d.rest d.runs (ap (λ (s : Seat). s.told) (seat_is v w t d) ∙ said) in
     let y : SuccessTaught v.number n f m (known (o v w t d) (before v w t d)) (knows w) = subst (SuccessTaught v.number n f m (known (o v w t d) (before v w t d))) (list_is v w t d) x in
     record { place = y.place; entry = y.entry; behind = all_among (λ z. z.place < y.place) (grows_before v w t d).0 y.behind }
 
-pub failure_known : (v w : SeatView) (i : ℕ) (f : Footprint) (m : Mode) → Does v (task.Commit f m) w → w.seat.told ≡ Some (told.Failed i) → FailureTaught f i (knows w)
+pub failure_known : (v w : SeatView) (i : ℕ) (f : Footprint) (m : Mode) → DoesTask v (task.Commit f m) w → w.seat.told ≡ Some (told.Failed i) → FailureTaught f i (knows w)
 failure_known v w i f m d said =
     let t = task.Commit f m in
     subst (FailureTaught f i) (list_is v w t d) (failure_taught (o v w t d) v.number i f m (before v w t d) d.rest d.runs (ap (λ (s : Seat). s.told) (seat_is v w t d) ∙ said))
 
-pub swap_success_known : (v w : SeatView) (n : ℕ) (r : Seen) (after : ℕ) → Does v (task.Swap r after) w → w.seat.told ≡ Some (told.Succeeded n) → SuccessTaught v.number n (put_of r after) mode.All (knows v) (knows w)
+pub swap_success_known : (v w : SeatView) (n : ℕ) (r : Seen) (after : ℕ) → DoesTask v (task.Swap r after) w → w.seat.told ≡ Some (told.Succeeded n) → SuccessTaught v.number n (put_by_swap r after) mode.All (knows v) (knows w)
 swap_success_known v w n r after d said =
     let t = task.Swap r after in
     let x = swap_success_taught (o v w t d) v.number n r after (before v w t d) d.rest d.runs (ap (λ (s : Seat). s.told) (seat_is v w t d) ∙ said) in
-    let y : SuccessTaught v.number n (put_of r after) mode.All (known (o v w t d) (before v w t d)) (knows w) = subst (SuccessTaught v.number n (put_of r after) mode.All (known (o v w t d) (before v w t d))) (list_is v w t d) x in
+    let y : SuccessTaught v.number n (put_by_swap r after) mode.All (known (o v w t d) (before v w t d)) (knows w) = subst (SuccessTaught v.number n (put_by_swap r after) mode.All (known (o v w t d) (before v w t d))) (list_is v w t d) x in
     record { place = y.place; entry = y.entry; behind = all_among (λ z. z.place < y.place) (grows_before v w t d).0 y.behind }
 
-pub swap_failure_known : (v w : SeatView) (i : ℕ) (r : Seen) (after : ℕ) → Does v (task.Swap r after) w → w.seat.told ≡ Some (told.Failed i) → HasPut (knows w) r
+pub swap_failure_known : (v w : SeatView) (i : ℕ) (r : Seen) (after : ℕ) → DoesTask v (task.Swap r after) w → w.seat.told ≡ Some (told.Failed i) → HasPut (knows w) r
 swap_failure_known v w i r after d said =
     let t = task.Swap r after in
     subst (λ h. HasPut h r) (list_is v w t d) (swap_failure_taught (o v w t d) v.number i r after (before v w t d) d.rest d.runs (ap (λ (s : Seat). s.told) (seat_is v w t d) ∙ said))
 
-pub put_past : (v w : SeatView) (t : Task) (r : Seen) → Does v t w → HasPut (knows v) r → r.version < (ending (first_store (opening_at_seat v)) (knows v) r.loc.0).version
+pub put_past : (v w : SeatView) (t : Task) (r : Seen) → DoesTask v t w → HasPut (knows v) r → r.version < (ending_store (first_store (opening_at_seat v)) (knows v) r.loc.0).version
 put_past v w t r d p = let m = meant_past v w t d in puts_past (opening_at_seat v) v.past m.0 m.1 r p

@@ -19,10 +19,10 @@ use Rattle.kc_table_laws.proofs.kc_machine_history.Filters.{found}
 use Rattle.kc_table_laws.proofs.kc_machine_traces.Always.{references_fit, references_held}
 use Rattle.kc_table_laws.proofs.kc_machine_invariants.Filled.{is_there}
 use Rattle.kc_table_laws.proofs.kc_machine_invariants.LifeLaws.{words_filled}
-use Rattle.kc_table_laws.specs.kc_machine_invariants.Filled.{Filled}
+use Rattle.kc_table_laws.specs.kc_machine_invariants.Filled.{OwnedIsFilled}
 use Rattle.kc_table_laws.proofs.kc_machine_invariants.MadeSteps.{intents_made}
 use Rattle.kc_table_laws.specs.kc_machine_invariants.Made.{IntentIsMade, IsWellMadeIntent, IsWellMadeLine}
-use Rattle.kc_table_laws.specs.kc_machine_steps.Lines.{word_of}
+use Rattle.kc_table_laws.specs.kc_machine_steps.Lines.{reference_word}
 use Rattle.kc_table_laws.specs.kc_machine_steps.Passes.{refers_to, status}
 use Rattle.kc_model.specs.declared.footprint.Line.{Line}
 use Rattle.kc_table_laws.specs.kc_machine_steps.declared.pass.PassStep.TheVariants.{Install}
@@ -64,15 +64,15 @@ module _ (o : Opening) (es : List Event) (made : IsSchedule o es) (sole : o.call
     t = record (resting s) { halted = c.halted; own = Runs h c.intent; pass = Over h c.intent.mode xs (At (Install j)) }
 
     stood : stand s ≡ t
-    stood = ap (works (resting s)) is ∙ ap (λ y. stands.commits (record (resting s) { halted = c.halted }) c.intent c.copy y) at
+    stood = ap (works (resting s)) is ∙ ap (λ y. stands.stand_commits (record (resting s) { halted = c.halted }) c.intent c.copy y) at
 
     made_intent : IsWellMadeIntent o.locations c.intent
     made_intent = subst (IntentIsMade o.locations) is (intents_made o es made k)
 
-    filled : Filled m.world t
-    filled = subst (Filled m.world) stood (words_filled o es k there)
+    filled : OwnedIsFilled m.world t
+    filled = subst (OwnedIsFilled m.world) stood (words_filled o es k there)
 
-    module _ (x : Line) (q : Reference) (here : slice_get xs j ≡ Some x) (refers : m.world.word x.seen.loc.0 ≡ word_of q.handle q.line) where
+    module _ (x : Line) (q : Reference) (here : slice_get xs j ≡ Some x) (refers : m.world.word x.seen.loc.0 ≡ reference_word q.handle q.line) where
       low : x.seen.loc.0 < m.locations
       low =
           let a = All-contains (IsWellMadeLine o.locations) xs x made_intent.lines (found xs j x here) in

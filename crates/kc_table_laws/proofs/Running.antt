@@ -5,16 +5,16 @@ use Rattle.kc_machine_progress.specs.kc_machine_steps.declared.task.Task.{Task}
 use Rattle.kc_table_moves.specs.Views.{SeatView, Starts, Stepped, StepsTo, count, here, further, Ran, begun_at}
 use Rattle.kc_table_moves.specs.declared.view.TheConstants.{MOST_LOADS}
 use Rattle.kc_table_laws.proofs.Following.{does_first, does_further}
-use Rattle.kc_table_laws.specs.Tasks.{Does}
+use Rattle.kc_table_laws.specs.Tasks.{DoesTask}
 
-begins_or_does : (v : SeatView) (t : Task) (u w : SeatView) → Starts v t → IsWellMadeTask v.of.origin.locations t → StepsTo (begun_at v t) u → Stepped u w → Does v t w
+begins_or_does : (v : SeatView) (t : Task) (u w : SeatView) → Starts v t → IsWellMadeTask v.of.origin.locations t → StepsTo (begun_at v t) u → Stepped u w → DoesTask v t w
 begins_or_does v t u w st made here s = does_first v (begun_at v t) w t st made refl s
 begins_or_does v t u w st made (further x y d busy r) s = does_further v u w u.seat t (begins_or_does v t x y st made d r) r.began s
 
-pub does_ran : (v w : SeatView) (t : Task) → Starts v t → IsWellMadeTask v.of.origin.locations t → Ran v t w → Does v t w
+pub does_ran : (v w : SeatView) (t : Task) → Starts v t → IsWellMadeTask v.of.origin.locations t → Ran v t w → DoesTask v t w
 does_ran v w t st made r = go w r.steps r.shown
   where
-    go : (w : SeatView) → StepsTo (begun_at v t) w → w.began ≡ false → Does v t w
+    go : (w : SeatView) → StepsTo (begun_at v t) w → w.began ≡ false → DoesTask v t w
     go w here old = absurd (cc)
     go w (further x y d busy s) old = begins_or_does v t x y st made d s
 

@@ -3,7 +3,7 @@ use Rattle.std.proofs.Common.{Bool, List, None, Option, Some, ap, false, if◌th
 use Rattle.std.specs.Prelude.{bit_and, bit_or, nat_lt, slice_get}
 use Rattle.kc_table_laws.specs.kc_machine.Machine.{Opening, State, World, found_at, put_some, run, touched}
 use Rattle.kc_table_laws.specs.kc_machine.Schedules.{IsSchedule}
-use Rattle.kc_table_laws.specs.kc_machine.Seats.{access_of, after, answer_by, answer_of, work_access}
+use Rattle.kc_table_laws.specs.kc_machine.Seats.{access_of, seat_after, answer_by, seat_answered, work_access}
 use Rattle.kc_table_laws.specs.kc_machine.Words.{control}
 use Rattle.kc_table_laws.specs.kc_machine.Works as work
 use Rattle.kc_table_laws.specs.kc_machine.Works.{Work}
@@ -65,7 +65,7 @@ data NextStands (w0 w : World) : Next → Type 0 where
   worn_out : w ≡ w0 → NextStands w0 w (next.Tells told.Worn)
   ending : (a : Told) → is_end a ≡ true → NextStands w0 w (next.Tells a)
 
-moves : (w0 w : World) (s : Seat) (c : Commit) (x : Next) → NextStands w0 w x → Stands w0 w (after (record s { work = work.Commit (gone_on c x) }) (onward_by x))
+moves : (w0 w : World) (s : Seat) (c : Commit) (x : Next) → NextStands w0 w x → Stands w0 w (seat_after (record s { work = work.Commit (gone_on c x) }) (onward_by x))
 moves w0 w s c _ (searching x o e) = searches (record c { stage = x }) refl o e
 moves w0 w s c _ (owning x o a) = owns (record c { stage = x }) refl o a
 moves w0 w s c _ (taking x o a) = owns (record c { stage = x }) refl o a
@@ -209,7 +209,7 @@ module _ (o : Opening) (es : List Event) (made : IsSchedule o es) (sole : o.call
     stages (Take d g) at same a = takes w0 w (same refl) s.descriptors d g
     stages (Own h x) at same a = owns_on (touched w (own_access s.caller s.calls c h x)) h x at a
 
-    pub moved : (owned c.stage ≡ false → w ≡ w0) → aids c.stage ≡ false → Stands w0 (touched w (access_of s)) (answer_of s (found_at w (access_of s)))
+    pub moved : (owned c.stage ≡ false → w ≡ w0) → aids c.stage ≡ false → Stands w0 (touched w (access_of s)) (seat_answered s (found_at w (access_of s)))
     moved same a =
         subst (λ z. Stands w0 (touched w (work_access s.caller s.calls z)) (answer_by s (found_at w (work_access s.caller s.calls z)) z)) (sym is)
         (moves w0 (touched w (commit_access s.caller s.calls c)) s (loaded c f) (stage_next s.descriptors s.calls (loaded c f) c.stage f) (stages c.stage refl same a))

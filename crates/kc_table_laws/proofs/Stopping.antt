@@ -1,7 +1,7 @@
 -- Where a seat stands as it steps, and what that says of halted tasks.
 use Rattle.std.proofs.Common.{◌≡◌, ◌≢◌, inl, inr, ⊎_elim, ◌∙◌, ◌++◌, ℕ, Bool, true, false, List, [], ◌∷◌, None, Some, refl, sym, ap, subst, if◌then◌else◌}
 use Rattle.kc_machine_progress.specs.kc_machine.Machine.{Opening, event_of, found_at, run}
-use Rattle.kc_machine_progress.specs.kc_machine.Seats.{access_of, answer_of, begun, begun_idle, hanging, is_idle, working}
+use Rattle.kc_machine_progress.specs.kc_machine.Seats.{access_of, seat_answered, begun, begun_idle, hanging, is_idle, working}
 use Rattle.kc_machine_progress.specs.kc_machine.Works.{Work}
 use Rattle.kc_machine_progress.specs.kc_machine.declared.seat.Seat.{Seat}
 use Rattle.kc_machine_progress.proofs.kc_machine_answers.Halts.{Stopped, event_stops, seat_on}
@@ -44,7 +44,7 @@ module _ (v w : SeatView) (s : Stepped v w) where
       let m : IsMeant o (before ++ Step k ∷ []) = subst (IsMeant o) s.steps.is s.steps.meant in
       ((made_parts o before (Step k ∷ []) m.0).0, (honest_parts o before (Step k ∷ []) m.1).0)
 
-  pub moved : w.seat ≡ answer_of v.seat (found_at (run o before).world (access_of v.seat))
+  pub moved : w.seat ≡ seat_answered v.seat (found_at (run o before).world (access_of v.seat))
   moved = s.seat ∙ s.steps.stands
 
   stands : Stands o v.seat

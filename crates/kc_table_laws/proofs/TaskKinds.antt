@@ -4,7 +4,7 @@ use borrow.Author.Tests.{eqb-false, eqb-true}
 use Rattle.kc_machine_progress.proofs.kc_machine.Functions.{put_here}
 use Rattle.kc_machine_progress.specs.kc_machine.Hangs.{hang_after, hang_onward, leave_after, leave_onward}
 use Rattle.kc_machine_progress.specs.kc_machine.Machine.{State, event_of, found_at, run, run_from, seat_of}
-use Rattle.kc_machine_progress.specs.kc_machine.Seats.{access_of, after, answer_by, answer_of, begun, begun_idle, ended, halted, halted_by, hanging, is_idle, working}
+use Rattle.kc_machine_progress.specs.kc_machine.Seats.{access_of, seat_after, answer_by, seat_answered, begun, begun_idle, seat_halted, halted, halted_by, hanging, is_idle, working}
 use Rattle.kc_machine_progress.specs.kc_machine.Works.{Work}
 use Rattle.kc_machine_progress.specs.kc_machine.Works as work
 use Rattle.kc_machine_progress.specs.kc_machine.declared.seat.Seat.{Seat}
@@ -25,20 +25,20 @@ use Rattle.kc_machine_progress.specs.kc_machine_traces.Moments.{BeginsNothing}
 use Rattle.kc_machine_progress.specs.kc_machine_words.declared.access.Found.{Found}
 use Rattle.kc_table_moves.specs.Views.{SeatView, opening_at_seat}
 use Rattle.kc_table_laws.specs.Halts.{may_halt, task_may_halt}
-use Rattle.kc_table_laws.specs.Tasks.{Does}
+use Rattle.kc_table_laws.specs.Tasks.{DoesTask}
 
 module _ (b : Bool) where
   abbrev IsOf : Seat → Type 0
   IsOf s = (is_idle s.work ≡ true) ⊎ (may_halt s.work ≡ b)
 
   -- it goes on so, or is told
-  goes_on : (s : Seat) (x : Work) → may_halt x ≡ b → (n : Onward) → IsOf (after (record s { work = x }) n)
+  goes_on : (s : Seat) (x : Work) → may_halt x ≡ b → (n : Onward) → IsOf (seat_after (record s { work = x }) n)
   goes_on s x e onward.Goes = inr e
   goes_on s x e onward.Takes = inr e
   goes_on s x e onward.Unblocks = inr e
   goes_on s x e (onward.Tells t) = inl refl
 
-  answered : (s : Seat) (f : Found) → IsOf s → IsOf (answer_of s f)
+  answered : (s : Seat) (f : Found) → IsOf s → IsOf (seat_answered s f)
   answered s f y = go s.work y
     where
       go : (x : Work) → (is_idle x ≡ true) ⊎ (may_halt x ≡ b) → IsOf (answer_by s f x)
@@ -52,11 +52,11 @@ module _ (b : Bool) where
   stopped : (s : Seat) → IsOf s → IsOf (halted s)
   stopped s y = go s.work y
     where
-      ends_or : (x : Work) (c : Bool) → may_halt x ≡ b → IsOf (if c then ended s else record s { work = x })
+      ends_or : (x : Work) (c : Bool) → may_halt x ≡ b → IsOf (if c then seat_halted s else record s { work = x })
       ends_or x true e = inl refl
       ends_or x false e = inr e
 
-      ends_or_stays : (c : Bool) → IsOf (if c then ended s else s)
+      ends_or_stays : (c : Bool) → IsOf (if c then seat_halted s else s)
       ends_or_stays true = inl refl
       ends_or_stays false = y
 
@@ -108,7 +108,7 @@ settled : (b : Bool) (s : Seat) → IsOf b s → is_idle s.work ≡ false → ma
 settled b s (inl i) busy = absurd (cc)
 settled b s (inr e) busy = e
 
-pub kind_stays : (v w : SeatView) (t : Task) → Does v t w → is_idle w.seat.work ≡ false → may_halt w.seat.work ≡ task_may_halt t
+pub kind_stays : (v w : SeatView) (t : Task) → DoesTask v t w → is_idle w.seat.work ≡ false → may_halt w.seat.work ≡ task_may_halt t
 kind_stays v w t d busy =
     let o = opening_at_seat v in
     let k = v.number in

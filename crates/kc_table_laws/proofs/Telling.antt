@@ -2,7 +2,7 @@
 use Rattle.std.proofs.Common.{Some, [], ap, arith, false, refl, subst, suc, sym, true, ℕ, ◌++◌, ◌<◌, ◌∙◌, ◌∷◌, ◌≡◌}
 use Rattle.kc_table_laws.proofs.kc_machine.Functions.{put_here}
 use Rattle.kc_table_laws.specs.kc_machine.Machine.{Opening, State, World, found_at, run, touched}
-use Rattle.kc_table_laws.specs.kc_machine.Seats.{access_of, answer_of, begun, is_idle, working}
+use Rattle.kc_table_laws.specs.kc_machine.Seats.{access_of, seat_answered, begun, is_idle, working}
 use Rattle.kc_table_laws.specs.kc_machine.Works as work
 use Rattle.kc_table_laws.specs.kc_machine.declared.seat.Seat.{Seat}
 use Rattle.kc_table_laws.proofs.kc_machine_traces.Runs.{steps_happen}
@@ -14,7 +14,7 @@ use Rattle.kc_table_laws.specs.kc_machine_steps.declared.task.Task.TheVariants a
 use Rattle.kc_table_laws.specs.kc_machine_steps.declared.task.Task.{Task}
 use Rattle.kc_table_laws.specs.kc_machine_steps.declared.task.Told.TheVariants as told
 use Rattle.kc_table_laws.proofs.kc_machine_traces.Joins.{honest_parts, made_parts}
-use Rattle.kc_table_laws.specs.kc_machine_traces.Entries.{by}
+use Rattle.kc_table_laws.specs.kc_machine_traces.Entries.{placed_by}
 use Rattle.kc_table_laws.specs.kc_machine_traces.Outcomes.{GainsAsTold}
 use Rattle.kc_table_laws.specs.kc_machine_words.declared.access.Found.TheVariants as found
 use Rattle.kc_model.specs.declared.footprint.Loc.{Loc}
@@ -22,10 +22,10 @@ use Rattle.kc_model.specs.declared.plain_store.Cell.{Cell}
 use Rattle.kc_model.specs.declared.word.Word.{Word}
 use Rattle.kc_model.specs.declared.word.Word.TheVariants.{Plain}
 use Rattle.kc_table_laws.specs.kc_table_moves.Origins.{opening_of}
-use Rattle.kc_table_laws.specs.kc_table_moves.Views.{SeatView, Starts, Stepped, TableView, knows, opening_at_seat, seen_at, Ran, StepsTo, begun_at, further, here}
+use Rattle.kc_table_laws.specs.kc_table_moves.Views.{SeatView, Starts, Stepped, TableView, knows, opening_at_seat, seen_cell_at, Ran, StepsTo, begun_at, further, here}
 use Rattle.kc_table_laws.proofs.Keeping.{own_known}
 use Rattle.kc_table_laws.proofs.Running.{does_ran}
-use Rattle.kc_table_laws.specs.Tasks.{Does}
+use Rattle.kc_table_laws.specs.Tasks.{DoesTask}
 use Rattle.kc_table_laws.proofs.Alone.{Along, along}
 use Rattle.kc_table_laws.proofs.Knowing.{knows_same, rests_so}
 use Rattle.kc_table_laws.proofs.Steps.{next_alone, none_yet}
@@ -36,7 +36,7 @@ use Rattle.kc_table_laws.specs.kc_table_views.Known.{IsMeant, OwnsNone}
 -- it is told what stands, and touches no word
 record Saw (v : SeatView) (l : Loc) (w : SeatView) : Type 0 where
   idle : is_idle w.seat.work ≡ true
-  told : w.seat.told ≡ Some (told.Seen (seen_at l.0 (standing v l.0)))
+  told : w.seat.told ≡ Some (told.Seen (seen_cell_at l.0 (standing v l.0)))
   words : words_at w ≡ words_at v
 
 module _ (v : SeatView) (l : Loc) (sole : IsSole v) (idle : is_idle v.seat.work ≡ true) (low : l.0 < v.of.origin.locations) where
@@ -62,7 +62,7 @@ module _ (v : SeatView) (l : Loc) (sole : IsSole v) (idle : is_idle v.seat.work 
   starts = (idle, ap (λ (s : Seat). is_idle s.work) begins)
 
   -- what stands where it owned none
-  plain : (w : SeatView) → Does v t w → (words_at v).word l.0 ≡ Plain (standing v l.0).version (standing v l.0).value
+  plain : (w : SeatView) → DoesTask v t w → (words_at v).word l.0 ≡ Plain (standing v l.0).version (standing v l.0).value
   plain w d = plain_words o v.past meant none l.0 low
     where
       before : IsMeant o ((v.past ++ d.others) ++ d.halts)
@@ -81,15 +81,15 @@ module _ (v : SeatView) (l : Loc) (sole : IsSole v) (idle : is_idle v.seat.work 
 
   -- the first step
   sees : (s : Seat) (u : World) (c : Cell) → s ≡ working v.seat (work.Look looking) → u.word l.0 ≡ Plain c.version c.value
-      → (is_idle (answer_of s (found_at u (access_of s))).work ≡ true) × ((answer_of s (found_at u (access_of s))).told ≡ Some (told.Seen (seen_at l.0 c))) × (touched u (access_of s) ≡ u)
+      → (is_idle (seat_answered s (found_at u (access_of s))).work ≡ true) × ((seat_answered s (found_at u (access_of s))).told ≡ Some (told.Seen (seen_cell_at l.0 c))) × (touched u (access_of s) ≡ u)
   sees s u c is at =
-      subst (λ (s : Seat). (is_idle (answer_of s (found_at u (access_of s))).work ≡ true) × ((answer_of s (found_at u (access_of s))).told ≡ Some (told.Seen (seen_at l.0 c))) × (touched u (access_of s) ≡ u)) (sym is)
+      subst (λ (s : Seat). (is_idle (seat_answered s (found_at u (access_of s))).work ≡ true) × ((seat_answered s (found_at u (access_of s))).told ≡ Some (told.Seen (seen_cell_at l.0 c))) × (touched u (access_of s) ≡ u)) (sym is)
       (by (u.word l.0) at)
     where
-      by : (y : Word) → y ≡ Plain c.version c.value → (is_idle (answer_of looks_on (found.Word y)).work ≡ true) × ((answer_of looks_on (found.Word y)).told ≡ Some (told.Seen (seen_at l.0 c))) × (touched u (access_of looks_on) ≡ u)
-      by y e = subst (λ y. (is_idle (answer_of looks_on (found.Word y)).work ≡ true) × ((answer_of looks_on (found.Word y)).told ≡ Some (told.Seen (seen_at l.0 c))) × (touched u (access_of looks_on) ≡ u)) (sym e) (refl, refl, refl)
+      by : (y : Word) → y ≡ Plain c.version c.value → (is_idle (seat_answered looks_on (found.Word y)).work ≡ true) × ((seat_answered looks_on (found.Word y)).told ≡ Some (told.Seen (seen_cell_at l.0 c))) × (touched u (access_of looks_on) ≡ u)
+      by y e = subst (λ y. (is_idle (seat_answered looks_on (found.Word y)).work ≡ true) × ((seat_answered looks_on (found.Word y)).told ≡ Some (told.Seen (seen_cell_at l.0 c))) × (touched u (access_of looks_on) ≡ u)) (sym e) (refl, refl, refl)
 
-  saw_first : (w : SeatView) → Along v t w 1 → Does v t w → Saw v l w
+  saw_first : (w : SeatView) → Along v t w 1 → DoesTask v t w → Saw v l w
   saw_first w x d = record { idle = ap (λ (s : Seat). is_idle s.work) seat ∙ y.0; told = ap (λ (s : Seat). s.told) seat ∙ y.1; words = words }
     where
       s : Seat
@@ -107,10 +107,10 @@ module _ (v : SeatView) (l : Loc) (sole : IsSole v) (idle : is_idle v.seat.work 
       happens : run o w.past ≡ one_step (run o x.base) k
       happens = stepped ∙ steps_happen o x.base x.meant.0 k x.within (ap (λ (s : Seat). is_idle s.work) is)
 
-      seat : w.seat ≡ answer_of s (found_at u (access_of s))
-      seat = x.at ∙ ap (λ (m : State). m.seats k) happens ∙ put_here (run o x.base).seats k (answer_of s (found_at u (access_of s)))
+      seat : w.seat ≡ seat_answered s (found_at u (access_of s))
+      seat = x.at ∙ ap (λ (m : State). m.seats k) happens ∙ put_here (run o x.base).seats k (seat_answered s (found_at u (access_of s)))
 
-      y : (is_idle (answer_of s (found_at u (access_of s))).work ≡ true) × ((answer_of s (found_at u (access_of s))).told ≡ Some (told.Seen (seen_at l.0 (standing v l.0)))) × (touched u (access_of s) ≡ u)
+      y : (is_idle (seat_answered s (found_at u (access_of s))).work ≡ true) × ((seat_answered s (found_at u (access_of s))).told ≡ Some (told.Seen (seen_cell_at l.0 (standing v l.0)))) × (touched u (access_of s) ≡ u)
       y = sees s u (standing v l.0) is (ap (λ (z : World). z.word l.0) x.words ∙ plain w d)
 
       words : words_at w ≡ words_at v
@@ -124,7 +124,7 @@ module _ (v : SeatView) (l : Loc) (sole : IsSole v) (idle : is_idle v.seat.work 
       record {
         idle = x.idle;
         told = x.told;
-        rests = rests_so v w does.of (knows_same v w t sole does (subst (λ a. GainsAsTold k t a (by k (knows v)) (by k (knows w))) x.told (own_known v w t does x.idle))) x.words;
+        rests = rests_so v w does.of (knows_same v w t sole does (subst (λ a. GainsAsTold k t a (placed_by k (knows v)) (placed_by k (knows w))) x.told (own_known v w t does x.idle))) x.words;
         one = one;
       }
 

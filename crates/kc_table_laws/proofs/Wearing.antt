@@ -3,8 +3,8 @@ use Rattle.std.proofs.Common.{arith, ◌≡◌, ◌<◌, ◌≤◌, inl, inr, �
 use Rattle.std.specs.Prelude.{nat_lt}
 use borrow.Author.Tests.{eqb-false, eqb-true, ltb-true}
 use Rattle.kc_machine_progress.proofs.kc_machine.Functions.{both, put_cases, put_here}
-use Rattle.kc_machine_progress.specs.kc_machine.Machine.{Opening, State, World, event_of, found_at, happened, pool_size, possible, put, put_some, run, run_from, seat_of, touched}
-use Rattle.kc_machine_progress.specs.kc_machine.Seats.{access_of, after, answer_by, answer_of, begun, begun_idle, ended, halted, halted_by, is_idle, work_access}
+use Rattle.kc_machine_progress.specs.kc_machine.Machine.{Opening, State, World, event_of, found_at, happened, pool_size, possible, put_at_index, put_some, run, run_from, seat_of, touched}
+use Rattle.kc_machine_progress.specs.kc_machine.Seats.{access_of, seat_after, answer_by, seat_answered, begun, begun_idle, seat_halted, halted, halted_by, is_idle, work_access}
 use Rattle.kc_machine_progress.specs.kc_machine.Words.{control, gripped}
 use Rattle.kc_machine_progress.specs.kc_machine.Works.{Work}
 use Rattle.kc_machine_progress.specs.kc_machine.Works as work
@@ -17,7 +17,7 @@ use Rattle.kc_machine_progress.specs.kc_machine_commits.Nexts as next
 use Rattle.kc_machine_progress.specs.kc_machine_commits.declared.commit.Commit.{Commit}
 use Rattle.kc_machine_progress.specs.kc_machine_commits.declared.commit.Stage.{Stage}
 use Rattle.kc_machine_progress.specs.kc_machine_commits.declared.commit.Stage.TheVariants.{Own, Scan, Take}
-use Rattle.kc_machine_progress.specs.kc_machine_invariants.Claims.{IsWorn}
+use Rattle.kc_machine_progress.specs.kc_machine_invariants.Claims.{DescriptorIsWorn}
 use Rattle.kc_machine_progress.proofs.kc_machine_invariants.SeatedSteps.{searches_in_range}
 use Rattle.kc_machine_progress.specs.kc_machine_invariants.Seated.{StageSearches, WorkSearches}
 use Rattle.kc_machine_progress.specs.kc_machine_steps.declared.task.Event.{Event}
@@ -37,7 +37,7 @@ use Rattle.kc_machine_progress.specs.kc_machine_words.declared.words.Mode.{Mode}
 use Rattle.kc_machine_progress.specs.kc_machine_words.declared.words.TheConstants.{LAST_GENERATION}
 use Rattle.kc_model.specs.declared.footprint.Footprint.{Footprint}
 use Rattle.kc_table_moves.specs.Views.{SeatView, opening_at_seat}
-use Rattle.kc_table_laws.specs.Tasks.{Does}
+use Rattle.kc_table_laws.specs.Tasks.{DoesTask}
 use Rattle.kc_table_laws.specs.Told.{IsUndecided, IsWornOut}
 
 -- ---- generations don't come back
@@ -67,7 +67,7 @@ grip_worn grip.Subtract c d l e = go (nat_lt 0 c.holds) e
     go true e = let z : control c.generation (c.holds - 1) ≡ d = cc in subst IsLast z l
     go false e = absurd (cc)
 
-touched_worn : (w : World) (a : Access) (d : ℕ) → IsWorn w d → IsWorn (touched w a) d
+touched_worn : (w : World) (a : Access) (d : ℕ) → DescriptorIsWorn w d → DescriptorIsWorn (touched w a) d
 touched_worn w access.Nothing d h = h
 touched_worn w (access.Location l t) d h = h
 touched_worn w (access.Control e g) d h = go (gripped g (w.control e)) refl
@@ -82,28 +82,28 @@ touched_worn w (access.Second e k t) d h = h
 touched_worn w (access.Awaiters l b) d h = h
 touched_worn w (access.Signal c s) d h = h
 
-event_worn : (m : State) (e : Event) (d : ℕ) → IsWorn m.world d → IsWorn (event_of m e).world d
+event_worn : (m : State) (e : Event) (d : ℕ) → DescriptorIsWorn m.world d → DescriptorIsWorn (event_of m e).world d
 event_worn m e d h = go (nat_lt (seat_of e) m.callers)
   where
-    step : (k : ℕ) (b : Bool) → IsWorn (if b then record m { world = touched m.world (access_of (m.seats k)); seats = put m.seats k (answer_of (m.seats k) (found_at m.world (access_of (m.seats k)))) } else m).world d
+    step : (k : ℕ) (b : Bool) → DescriptorIsWorn (if b then record m { world = touched m.world (access_of (m.seats k)); seats = put_at_index m.seats k (seat_answered (m.seats k) (found_at m.world (access_of (m.seats k)))) } else m).world d
     step k true = touched_worn m.world (access_of (m.seats k)) d h
     step k false = h
 
-    happens : (e : Event) → IsWorn (happened m e).world d
+    happens : (e : Event) → DescriptorIsWorn (happened m e).world d
     happens (Begin k t) = h
     happens (Step k) = step k (possible m (access_of (m.seats k)))
     happens (Halt k) = h
 
-    go : (b : Bool) → IsWorn (if b then happened m e else m).world d
+    go : (b : Bool) → DescriptorIsWorn (if b then happened m e else m).world d
     go true = happens e
     go false = h
 
-run_worn : (m : State) (es : List Event) (d : ℕ) → IsWorn m.world d → IsWorn (run_from m es).world d
+run_worn : (m : State) (es : List Event) (d : ℕ) → DescriptorIsWorn m.world d → DescriptorIsWorn (run_from m es).world d
 run_worn m [] d h = h
 run_worn m (e ∷ es) d h = run_worn (event_of m e) es d (event_worn m e d h)
 
 pub worn_on : (o : Opening) (past more : List Event) → IsWornOut o past → IsWornOut o (past ++ more)
-worn_on o past more f d l = subst (λ (m : State). IsWorn m.world d) (sym (run-append o past more)) (run_worn (run o past) more d (f d l))
+worn_on o past more f d l = subst (λ (m : State). DescriptorIsWorn m.world d) (sym (run-append o past more)) (run_worn (run o past) more d (f d l))
 
 -- ---- a commit that finds none goes on searching
 
@@ -126,7 +126,7 @@ NextSearches (next.Takes x) = ⊥
 NextSearches (next.Tells t) = IsUndecided (Some t)
 
 module _ (s : Seat) where
-  stage_on : (n caller : ℕ) (w : World) → ((d : ℕ) → d < n → IsWorn w d) → (c : Commit) (x : Stage) → StageSearches n x → is_scan x ≡ true → NextSearches (stage_next s.descriptors s.calls c x (found_at w (stage_access caller s.calls c x)))
+  stage_on : (n caller : ℕ) (w : World) → ((d : ℕ) → d < n → DescriptorIsWorn w d) → (c : Commit) (x : Stage) → StageSearches n x → is_scan x ≡ true → NextSearches (stage_next s.descriptors s.calls c x (found_at w (stage_access caller s.calls c x)))
   stage_on n caller w worn c (Scan d v) l e = go (nat_lt (w.control d).generation LAST_GENERATION) refl
     where
       ends : (b : Bool) → NextSearches (if b then next.Goes (Scan (after_scan s.descriptors d) (v + 1)) else next.Tells told.Worn)
@@ -140,10 +140,10 @@ module _ (s : Seat) where
   stage_on n caller w worn c (Take d g) l e = absurd (cc)
   stage_on n caller w worn c (Own h step) l e = absurd (cc)
 
-  answered : (n : ℕ) (w : World) → ((d : ℕ) → d < n → IsWorn w d) → WorkSearches n s.work → Searches s → Searches (answer_of s (found_at w (access_of s)))
+  answered : (n : ℕ) (w : World) → ((d : ℕ) → d < n → DescriptorIsWorn w d) → WorkSearches n s.work → Searches s → Searches (seat_answered s (found_at w (access_of s)))
   answered n w worn r y = go s.work r y.1
     where
-      moves : (c : Commit) (x : Next) → NextSearches x → Searches (after (record s { work = work.Commit (gone_on c x) }) (onward_by x))
+      moves : (c : Commit) (x : Next) → NextSearches x → Searches (seat_after (record s { work = work.Commit (gone_on c x) }) (onward_by x))
       moves c (next.Goes x) z = (y.0, z)
       moves c (next.Takes x) z = absurd z
       moves c (next.Tells t) z = (z, refl)
@@ -166,7 +166,7 @@ module _ (s : Seat) where
   stopped : Searches s → Searches (halted s)
   stopped y = go s.work y.1
     where
-      stages : (c : Commit) (x : Stage) → is_scan x ≡ true → Searches (if unowned x then ended s else record s { work = work.Commit (halted_at c x) })
+      stages : (c : Commit) (x : Stage) → is_scan x ≡ true → Searches (if unowned x then seat_halted s else record s { work = work.Commit (halted_at c x) })
       stages c (Scan d v) e = (inr (inr refl), refl)
       stages c (Take d g) e = absurd (cc)
       stages c (Own h step) e = absurd (cc)
@@ -207,7 +207,7 @@ module _ (o : Opening) (k : ℕ) (within : k < o.callers) where
       apart (Step j) n = (tt, n)
       apart (Halt j) n = (tt, n)
 
-pub stays_undecided : (v w : SeatView) (f : Footprint) (m : Mode) → Does v (task.Commit f m) w → IsWornOut (opening_at_seat v) v.past → IsUndecided w.seat.told
+pub stays_undecided : (v w : SeatView) (f : Footprint) (m : Mode) → DoesTask v (task.Commit f m) w → IsWornOut (opening_at_seat v) v.past → IsUndecided w.seat.told
 stays_undecided v w f m d worn =
     let o = opening_at_seat v in
     let k = v.number in

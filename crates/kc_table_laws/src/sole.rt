@@ -6,20 +6,20 @@ ghost use Rattle.kc_table_laws.specs.kc_machine.Seats.{is_idle};
 ghost use Rattle.kc_table_laws.specs.kc_machine_progress.Stretches.{stretch};
 ghost use Rattle.kc_table_laws.specs.kc_machine_steps.declared.task.Task.{Task};
 ghost use Rattle.kc_table_laws.specs.kc_machine_steps.declared.task.Task.TheVariants as task;
-ghost use Rattle.kc_table_laws.specs.kc_machine_traces.Entries.{by};
+ghost use Rattle.kc_table_laws.specs.kc_machine_traces.Entries.{placed_by};
 ghost use Rattle.kc_table_laws.specs.kc_machine_words.declared.words.Mode.TheVariants.{All};
 ghost use Rattle.kc_model.specs.Store.{Finds};
 ghost use Rattle.kc_model.specs.declared.footprint.Footprint.{Footprint};
 ghost use Rattle.kc_model.specs.declared.footprint.Loc.{Loc};
 ghost use Rattle.kc_model.specs.declared.footprint.TheConstants.{MOST};
 ghost use Rattle.kc_table_laws.specs.kc_table_moves.Views.{Ran, SeatView, begun_at, knows};
-ghost use Rattle.kc_table_laws.specs.Tasks.{Does};
+ghost use Rattle.kc_table_laws.specs.Tasks.{DoesTask};
 ghost use Rattle.kc_table_laws.specs.Sole.{IsMadeOrWorn, IsSole, TellsWhatStands, count, standing};
 
 /// All entries that the only seat knows are its own.
 pub fn sole_seats_know_all()
-    ensures before { (v w : SeatView) (t : Task) → IsSole v → Does v t w → by v.number (knows v) ≡ knows v }
-    ensures behind { (v w : SeatView) (t : Task) → IsSole v → Does v t w → by w.number (knows w) ≡ knows w }
+    ensures before { (v w : SeatView) (t : Task) → IsSole v → DoesTask v t w → placed_by v.number (knows v) ≡ knows v }
+    ensures behind { (v w : SeatView) (t : Task) → IsSole v → DoesTask v t w → placed_by w.number (knows w) ≡ knows w }
 {}
 
 /// A look of the only seat is told what stands, by its first step, and all stays as it is.

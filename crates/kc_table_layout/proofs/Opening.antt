@@ -9,7 +9,7 @@ use Rattle.kc_machine_words.specs.declared.words.Phase.TheVariants.{Halted}
 use Rattle.kc_model.specs.Word.{packed}
 use Rattle.kc_model.specs.declared.word.Word.TheVariants.{Plain}
 use Rattle.kc_machine.specs.Words as machine
-use Rattle.kc_machine.specs.Machine.{opened}
+use Rattle.kc_machine.specs.Machine.{opened_state}
 use Rattle.kc_table_layout.proofs.Places.{places_differ, inside}
 use Rattle.kc_table_layout.specs.Cells.{Cell, IsThere, place, base_of, size_of, bits, Stores}
 use Rattle.kc_table_layout.specs.declared.place.TheConstants.{DESCRIPTOR}
@@ -118,10 +118,10 @@ module _ (values versions : List ℕ) (generation : ℕ) where
       rest (second e k) ne = refl
       rest (signal c) ne = refl
 
-  pub all_written : (callers n m : ℕ) (ws : List ℕ) → AreWords n m (written values versions generation n m m) ws → Stores n m (opened (opening_at values versions callers generation)).world ws
+  pub all_written : (callers n m : ℕ) (ws : List ℕ) → AreWords n m (written values versions generation n m m) ws → Stores n m (opened_state (opening_at values versions callers generation)).world ws
   all_written callers n m ws a = record { size = a.size; words = λ c p. a.words c p ∙ go c p }
     where
-      go : (c : Cell) → IsThere n m c → written values versions generation n m m c ≡ bits (opened (opening_at values versions callers generation)).world c
+      go : (c : Cell) → IsThere n m c → written values versions generation n m m c ≡ bits (opened_state (opening_at values versions callers generation)).world c
       go none p = refl
       go (word l) p = rw (is_below l n p) refl
       go (awaiters l) p = refl

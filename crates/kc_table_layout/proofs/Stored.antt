@@ -10,12 +10,12 @@ use Rattle.kc_machine.specs.Machine.{World, State, touched, possible, room}
 use Rattle.kc_machine_traces.specs.Bits.{AccessFits}
 use Rattle.kc_table_layout.proofs.Places.{places_differ, inside}
 use Rattle.kc_table_layout.proofs.Touches.{touched_else}
-use Rattle.kc_table_layout.specs.Cells.{Cell, IsThere, base_of, place, bits, cell_of, CellFits, HasRoom, Stores}
+use Rattle.kc_table_layout.specs.Cells.{Cell, IsThere, base_of, place, bits, cell_of, CellFits, HoldsHaveRoom, Stores}
 use Rattle.kc_table_layout.specs.Changes.{change_of, changed}
 use Rattle.kc_model.specs.declared.footprint.TheConstants.{MOST}
 
 -- what is possible is there, and a count of holds has room
-pub possible_there : (m : State) (a : Access) → m.callers ≤ 64 → possible m a ≡ true → IsThere m.locations m.descriptors (cell_of a) × HasRoom m.world a
+pub possible_there : (m : State) (a : Access) → m.callers ≤ 64 → possible m a ≡ true → IsThere m.locations m.descriptors (cell_of a) × HoldsHaveRoom m.world a
 possible_there m access.Nothing c p = absurd (cc)
 possible_there m (access.Location l t) c p = (ltb-true _ _ p, tt)
 possible_there m (access.Control d g) c p = let b = both (nat_lt d m.descriptors) (room g (m.world.control d)) p in (ltb-true _ _ b.0, b.1)
@@ -38,9 +38,9 @@ same_cell c e P same other n m p q = go (at n c == at n e) refl
 
 -- what the step makes of the bits of its own cell is what the machine makes of it
 abbrev pub Agrees : Type 0
-Agrees = (w : World) (a : Access) → HasRoom w a → AccessFits a → CellFits w (cell_of a) → bits (touched w a) (cell_of a) ≡ changed (change_of a) (bits w (cell_of a))
+Agrees = (w : World) (a : Access) → HoldsHaveRoom w a → AccessFits a → CellFits w (cell_of a) → bits (touched w a) (cell_of a) ≡ changed (change_of a) (bits w (cell_of a))
 
-pub stores_touched : Agrees → (n m : ℕ) (w : World) (a : Access) (ws : List ℕ) (x : ℕ) → 1 ≤ m → Stores n m w ws → IsThere n m (cell_of a) → HasRoom w a → AccessFits a → CellFits w (cell_of a)
+pub stores_touched : Agrees → (n m : ℕ) (w : World) (a : Access) (ws : List ℕ) (x : ℕ) → 1 ≤ m → Stores n m w ws → IsThere n m (cell_of a) → HoldsHaveRoom w a → AccessFits a → CellFits w (cell_of a)
     → x ≡ changed (change_of a) (slice_index ws (at n (cell_of a))) → Stores n m (touched w a) (set ws (at n (cell_of a)) x)
 stores_touched agrees n m w a ws x one s there has fits cell is = record {
   size = length-set ws (at n (cell_of a)) x ∙ s.size;

@@ -18,13 +18,13 @@ use Rattle.kc_machine_words.specs.declared.access.Bits.TheVariants as bits_
 use Rattle.kc_machine_words.specs.declared.access.Access.{Access}
 use Rattle.kc_machine_words.specs.declared.access.Access.TheVariants as access
 use Rattle.kc_machine.proofs.Functions.{put_here, put_else, both}
-use Rattle.kc_machine.specs.Machine.{World, put, put_some, put_line, touched, room}
+use Rattle.kc_machine.specs.Machine.{World, put_at_index, put_some, put_at_line, touched, room}
 use Rattle.kc_machine.specs.Words.{word_is, phase_is, status_is, stored_word, stored_status, stored_owner, stored_first, stored_second, gripped, bits_after}
 use Rattle.kc_machine_traces.specs.Bits.{GripFits, AccessFits}
 use Rattle.kc_machine_traces.specs.Ranges.{TouchIn}
 use Rattle.kc_machine_words.specs.Packing.{ControlFits, control_bits, StatusFits, status_bits, OwnerFits, owner_bits, FirstFits, first_bits, SecondFits, second_bits}
 use Rattle.kc_table_layout.proofs.Places.{places_differ}
-use Rattle.kc_table_layout.specs.Cells.{Cell, IsThere, base_of, place, signal_bit, cell_of, bits, CellFits, HasRoom, AllFit}
+use Rattle.kc_table_layout.specs.Cells.{Cell, IsThere, base_of, place, signal_bit, cell_of, bits, CellFits, HoldsHaveRoom, AllCellsFit}
 use Rattle.kc_table_layout.specs.Cells.Cell.{none, word, awaiters, control, status, owner, first, second, signal}
 use Rattle.kc_table_layout.specs.Changes.{change_of, changed, word_change, status_change, grip_change}
 
@@ -33,16 +33,16 @@ module _ {A : Type 0} where
   some_else f i None j ne = refl
   some_else f i (Some a) j ne = put_else f i a j ne
 
-  line_else : (f : ℕ → ℕ → A) (d i : ℕ) (o : Option A) (e j : ℕ) → (e ≡ d → j ≢ i) → put_line f d i o e j ≡ f e j
+  line_else : (f : ℕ → ℕ → A) (d i : ℕ) (o : Option A) (e j : ℕ) → (e ≡ d → j ≢ i) → put_at_line f d i o e j ≡ f e j
   line_else f d i None e j ne = refl
   line_else f d i (Some a) e j ne = go (e == d) refl
     where
-      go : (b : Bool) → (e == d) ≡ b → put f d (put (f d) i a) e j ≡ f e j
-      go true q = let s = eqb-true e d q in ap (λ x. put f d (put (f d) i a) x j) s ∙ ap (λ (h : ℕ → A). h j) (put_here f d (put (f d) i a)) ∙ put_else (f d) i a j (ne s) ∙ ap (λ x. f x j) (sym s)
-      go false q = ap (λ (h : ℕ → A). h j) (put_else f d (put (f d) i a) e (eqb-false e d q))
+      go : (b : Bool) → (e == d) ≡ b → put_at_index f d (put_at_index (f d) i a) e j ≡ f e j
+      go true q = let s = eqb-true e d q in ap (λ x. put_at_index f d (put_at_index (f d) i a) x j) s ∙ ap (λ (h : ℕ → A). h j) (put_here f d (put_at_index (f d) i a)) ∙ put_else (f d) i a j (ne s) ∙ ap (λ x. f x j) (sym s)
+      go false q = ap (λ (h : ℕ → A). h j) (put_else f d (put_at_index (f d) i a) e (eqb-false e d q))
 
-  line_here : (f : ℕ → ℕ → A) (d i : ℕ) (a : A) → put_line f d i (Some a) d i ≡ a
-  line_here f d i a = ap (λ (h : ℕ → A). h i) (put_here f d (put (f d) i a)) ∙ put_here (f d) i a
+  line_here : (f : ℕ → ℕ → A) (d i : ℕ) (a : A) → put_at_line f d i (Some a) d i ≡ a
+  line_here f d i a = ap (λ (h : ℕ → A). h i) (put_here f d (put_at_index (f d) i a)) ∙ put_here (f d) i a
 
 -- what stands in a cell
 abbrev SameAt : World → World → Cell → Type 0
@@ -307,7 +307,7 @@ control_touched grip.Subtract f d a r p = rw r (ap control_bits (put_here f d (m
     less g h p r q = omega arith
 
 -- the atomic step on the bits is the machine's touch
-pub touched_here : Apart → (w : World) (a : Access) → HasRoom w a → AccessFits a → CellFits w (cell_of a) → bits (touched w a) (cell_of a) ≡ changed (change_of a) (bits w (cell_of a))
+pub touched_here : Apart → (w : World) (a : Access) → HoldsHaveRoom w a → AccessFits a → CellFits w (cell_of a) → bits (touched w a) (cell_of a) ≡ changed (change_of a) (bits w (cell_of a))
 touched_here apart w access.Nothing r f c = refl
 touched_here apart w (access.Location l t) r f c = word_touched apart t w.word l.0 f c
 touched_here apart w (access.Control d g) r f c = control_touched g w.control d f r c
@@ -366,7 +366,7 @@ control_kept grip.Subtract f d a r p =
     let q : ControlFits (made_control (f d).generation ((f d).holds - 1)) = (p0, omega arith) in
     subst (λ o. ControlFits (put_some f d o d)) (sym e) (subst ControlFits (sym (put_here f d (made_control (f d).generation ((f d).holds - 1)))) q)
 
-fits_here : (w : World) (a : Access) → HasRoom w a → AccessFits a → CellFits w (cell_of a) → CellFits (touched w a) (cell_of a)
+fits_here : (w : World) (a : Access) → HoldsHaveRoom w a → AccessFits a → CellFits w (cell_of a) → CellFits (touched w a) (cell_of a)
 fits_here w access.Nothing r f c = tt
 fits_here w (access.Location l t) r f c = word_kept t w.word l.0 f c
 fits_here w (access.Control d g) r f c = control_kept g w.control d f r c
@@ -383,7 +383,7 @@ fits_here w (access.Second d i (CompareExchange x y)) r f c = c
 fits_here w (access.Awaiters l b) r f c = tt
 fits_here w (access.Signal x s) r f c = tt
 
-pub fits_touched : (n m : ℕ) (w : World) (a : Access) → HasRoom w a → AccessFits a → IsThere n m (cell_of a) → AllFit n m w → AllFit n m (touched w a)
+pub fits_touched : (n m : ℕ) (w : World) (a : Access) → HoldsHaveRoom w a → AccessFits a → IsThere n m (cell_of a) → AllCellsFit n m w → AllCellsFit n m (touched w a)
 fits_touched n m w a r f there all c p = go (place (base_of n) c == place (base_of n) (cell_of a)) refl
   where
     go : (b : Bool) → (place (base_of n) c == place (base_of n) (cell_of a)) ≡ b → CellFits (touched w a) c

@@ -95,9 +95,9 @@ CellFits w (second d k) = SecondFits (w.second d k)
 CellFits w (signal c) = Unit {0}
 
 -- where a count of holds has room
-abbrev pub HasRoom : World → Access → Type 0
-HasRoom w (access.Control d g) = room g (w.control d) ≡ true
-HasRoom w _ = Unit {0}
+abbrev pub HoldsHaveRoom : World → Access → Type 0
+HoldsHaveRoom w (access.Control d g) = room g (w.control d) ≡ true
+HoldsHaveRoom w _ = Unit {0}
 
 -- the words of a table of n locations and m descriptors are those of the world
 pub record Stores (n m : ℕ) (w : World) (ws : List ℕ) : Type 0 where
@@ -105,5 +105,5 @@ pub record Stores (n m : ℕ) (w : World) (ws : List ℕ) : Type 0 where
   pub words : (c : Cell) → IsThere n m c → slice_index ws (place (base_of n) c) ≡ bits w c
 
 -- each word that is there has its bits
-abbrev pub AllFit : ℕ → ℕ → World → Type 0
-AllFit n m w = (c : Cell) → IsThere n m c → CellFits w c
+abbrev pub AllCellsFit : ℕ → ℕ → World → Type 0
+AllCellsFit n m w = (c : Cell) → IsThere n m c → CellFits w c

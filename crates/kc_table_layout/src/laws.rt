@@ -4,7 +4,7 @@ ghost use Rattle.std.specs.Prelude.{◌≡◌, ◌≢◌, ◌≤◌, ◌<◌, �
 ghost use Rattle.kc_machine.specs.Machine.{World, touched};
 ghost use Rattle.kc_machine_words.specs.declared.access.Access.{Access};
 ghost use Rattle.kc_machine_traces.specs.Bits.{AccessFits};
-ghost use Rattle.kc_table_layout.specs.Cells.{AllFit, Cell, CellFits, HasRoom, IsThere, base_of, bits, cell_of, place, size_of};
+ghost use Rattle.kc_table_layout.specs.Cells.{AllCellsFit, Cell, CellFits, HoldsHaveRoom, IsThere, base_of, bits, cell_of, place, size_of};
 ghost use Rattle.kc_table_layout.specs.Changes.{changed, change_of};
 
 /// No two words of the machine lie at the same place.
@@ -24,12 +24,12 @@ pub fn others_stay()
 
 /// What the atomic step of an access makes of its word's bits is what the machine makes of the word.
 pub fn touches_agree()
-    ensures { (w : World) (a : Access) → HasRoom w a → AccessFits a → CellFits w (cell_of a) → bits (touched w a) (cell_of a) ≡ changed (change_of a) (bits w (cell_of a)) }
+    ensures { (w : World) (a : Access) → HoldsHaveRoom w a → AccessFits a → CellFits w (cell_of a) → bits (touched w a) (cell_of a) ≡ changed (change_of a) (bits w (cell_of a)) }
 {
     kc_machine_words::bits_tell_words_apart();
 }
 
 /// Words that have their bits keep them.
 pub fn words_keep_their_bits()
-    ensures { (n m : ℕ) (w : World) (a : Access) → HasRoom w a → AccessFits a → IsThere n m (cell_of a) → AllFit n m w → AllFit n m (touched w a) }
+    ensures { (n m : ℕ) (w : World) (a : Access) → HoldsHaveRoom w a → AccessFits a → IsThere n m (cell_of a) → AllCellsFit n m w → AllCellsFit n m (touched w a) }
 {}

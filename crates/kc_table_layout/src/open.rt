@@ -3,7 +3,7 @@
 ghost use Rattle.std.specs.Prelude.{◌≡◌, ◌≤◌, IfOk, length, All};
 ghost use Rattle.kc_machine.specs.declared.machine.TheConstants.{MOST_CALLERS};
 ghost use Rattle.kc_model.specs.declared.plain_store.TheConstants.{MOST_LOCATIONS};
-ghost use Rattle.kc_machine.specs.Machine.{opened, pool_size};
+ghost use Rattle.kc_machine.specs.Machine.{opened_state, pool_size};
 ghost use Rattle.kc_table_layout.specs.Cells.{Stores};
 ghost use Rattle.kc_table_layout.specs.Opened.{opening_at};
 
@@ -27,7 +27,7 @@ pub fn open_words(
     requires shape { (length versions.now ≡ length values.now) × (length values.now ≤ MOST_LOCATIONS) × (callers ≤ MOST_CALLERS) }
     requires versions { All (λ v. v ≤ LAST_VERSION) versions.now }
     requires generation { generation ≤ LAST_GENERATION }
-    ensures { IfOk result (λ ws. Stores (length values.now) (pool_size callers) (opened (opening_at values.now versions.now callers generation)).world ws.items) }
+    ensures { IfOk result (λ ws. Stores (length values.now) (pool_size callers) (opened_state (opening_at values.now versions.now callers generation)).world ws.items) }
 {
     let pool = 3 * callers + 1;
     let base = base_at(values.len());

@@ -10,7 +10,7 @@ use Rattle.atomic_table.specs.Table.{Me, Act, Allows, Valid, keeps, stepped, car
 use Rattle.atomic_table.proofs.Lists.{at_set}
 use Rattle.kc_machine.specs.Machine.{World, Opening, run, touched, possible, found_at, pool_size}
 use Rattle.kc_machine.specs.Schedules.{BeginsWellMade}
-use Rattle.kc_machine.specs.Seats.{access_of, answer_of, is_idle}
+use Rattle.kc_machine.specs.Seats.{access_of, seat_answered, is_idle}
 use Rattle.kc_machine.specs.declared.seat.Seat.{Seat}
 use Rattle.kc_table_layout.specs.kc_machine_traces.Traces.{trace, first_store}
 use Rattle.kc_table_layout.proofs.kc_machine_traces.Bits.{access_fits}
@@ -27,14 +27,14 @@ use Rattle.kc_machine_words.specs.declared.access.Found.{Found}
 use Rattle.kc_table_layout.proofs.Places.{inside}
 use Rattle.kc_table_layout.proofs.Stored.{Agrees, possible_there, stores_touched}
 use Rattle.kc_table_layout.proofs.Touches.{fits_touched}
-use Rattle.kc_table_layout.specs.Cells.{AllFit, CellFits, HasRoom, IsThere, Stores, base_of, bits, cell_of, place, size_of}
+use Rattle.kc_table_layout.specs.Cells.{AllCellsFit, CellFits, HoldsHaveRoom, IsThere, Stores, base_of, bits, cell_of, place, size_of}
 use Rattle.kc_table_layout.specs.Changes.{change_of, changed, aim_of}
 use Rattle.kc_table_layout.specs.declared.change.Aim.{Aim}
 use Rattle.kc_table_layout.specs.declared.change.Change.{Change}
 use Rattle.kc_model.proofs.Sums.{sum_set, sum_two}
 use Rattle.kc_table_moves.proofs.Views.{seat_here, view_on}
 use Rattle.kc_table_moves.specs.Origins.{Origin, opening_of}
-use Rattle.kc_table_moves.specs.Rule.{loads_of, number_of, past_of, part, view, Fits, FitsView, is_seat, Kept, Ready, Steps, Moved}
+use Rattle.kc_table_moves.specs.Rule.{loads_of, number_of, past_of, part, view, Fits, FitsView, is_seat, Kept, ReadySeat, Steps, Moved}
 use Rattle.kc_table_moves.specs.declared.view.View.{View}
 use Rattle.kc_table_views.proofs.Knowing.{begins_later}
 use Rattle.kc_table_views.proofs.Pendings.{none_append, waits_none, waits_world, waits_seat, honest_waits, honest_later}
@@ -72,7 +72,7 @@ module _ (o : Opening) (k : ℕ) (es pending : List Event) (began : Bool) (s : S
   allowed = subst (λ (x : Seat). (possible (run o early) (access_of x) ≡ true) × AccessIn o (access_of x)) is_s
       (steps_possible o early (meant_pending o k es pending began s m p).0 k within (ap (λ (x : Seat). is_idle x.work) is_s ∙ busy))
 
-  there : IsThere o.locations (pool_size o.callers) (cell_of (access_of s)) × HasRoom (run o early).world (access_of s)
+  there : IsThere o.locations (pool_size o.callers) (cell_of (access_of s)) × HoldsHaveRoom (run o early).world (access_of s)
   there =
       let shape = run_shape o early in
       let c = shape.2 in
@@ -84,7 +84,7 @@ module _ (o : Opening) (k : ℕ) (es pending : List Event) (began : Bool) (s : S
   fits_bits v = access_fits o m.0.0 (access_of s) allowed.1 v
 
 -- a seat that is ready has an access that is there and fits, wherever the others are
-pub ready_access : (me : Me Unit View) (began : Bool) (s : Seat) (r : Ready me began s) → is_idle s.work ≡ false
+pub ready_access : (me : Me Unit View) (began : Bool) (s : Seat) (r : ReadySeat me began s) → is_idle s.work ≡ false
     → IsThere r.origin.locations (pool_size r.origin.callers) (cell_of (access_of s)) × (ValuesFit (access_of s) → AccessFits (access_of s))
 ready_access me began s r busy =
     let o = opening_of r.origin in
@@ -120,13 +120,13 @@ module _ (agrees : Agrees) (q : Origin) (st : table.State Unit View) (id k : ℕ
   meant_late : IsMeant o' late
   meant_late = meant_step o' soon k meant_soon
 
-  here_is : IsThere o'.locations (pool_size o'.callers) (cell_of (access_of s)) × HasRoom (run o' soon).world (access_of s)
+  here_is : IsThere o'.locations (pool_size o'.callers) (cell_of (access_of s)) × HoldsHaveRoom (run o' soon).world (access_of s)
   here_is = there o' k before pending began s kept.meant now_pends mine.within busy
 
   fits_access : AccessFits (access_of s)
   fits_access = fits_bits o' k before pending began s kept.meant now_pends mine.within busy ranged
 
-  fits_soon : AllFit o'.locations (pool_size o'.callers) (run o' soon).world
+  fits_soon : AllCellsFit o'.locations (pool_size o'.callers) (run o' soon).world
   fits_soon c p = subst (λ w. CellFits w c) (sym same_world) (kept.fits c p)
 
   fits_cell : CellFits (run o' soon).world (cell_of (access_of s))
@@ -138,9 +138,9 @@ module _ (agrees : Agrees) (q : Origin) (st : table.State Unit View) (id k : ℕ
   can : possible (run o' soon) (access_of ((run o' soon).seats k)) ≡ true
   can = ap (λ (x : Seat). possible (run o' soon) (access_of x)) stands ∙ (allowed o' k before pending began s kept.meant now_pends mine.within busy).0
 
-  step : ((run o' late).world ≡ touched (run o' soon).world (access_of s)) × ((run o' late).seats k ≡ answer_of s (found_at (run o' soon).world (access_of s)))
+  step : ((run o' late).world ≡ touched (run o' soon).world (access_of s)) × ((run o' late).seats k ≡ seat_answered s (found_at (run o' soon).world (access_of s)))
   step =
-      subst (λ (x : Seat). ((run o' late).world ≡ touched (run o' soon).world (access_of x)) × ((run o' late).seats k ≡ answer_of x (found_at (run o' soon).world (access_of x)))) stands
+      subst (λ (x : Seat). ((run o' late).world ≡ touched (run o' soon).world (access_of x)) × ((run o' late).seats k ≡ seat_answered x (found_at (run o' soon).world (access_of x)))) stands
       (step_world o' soon k mine.within can, step_seat o' soon k mine.within can)
 
   stores_soon : Stores q.locations (pool_size q.callers) (run o' soon).world st.words
@@ -166,7 +166,7 @@ module _ (agrees : Agrees) (q : Origin) (st : table.State Unit View) (id k : ℕ
     pends = pends;
     fits = subst (λ es. CellFits (run o' (es ++ pending)).world (cell_of (access_of s))) mine.on.1 fits_cell;
     found = subst (λ es. bits (run o' (es ++ pending)).world (cell_of (access_of s)) ≡ found) mine.on.1 (sym (stores_soon.words (cell_of (access_of s)) here_is.0));
-    stands = subst (λ es. (run o' late).seats k ≡ answer_of s (found_at (run o' (es ++ pending)).world (access_of s))) mine.on.1 step.1;
+    stands = subst (λ es. (run o' late).seats k ≡ seat_answered s (found_at (run o' (es ++ pending)).world (access_of s))) mine.on.1 step.1;
     meant = meant_late;
   }
 
@@ -229,7 +229,7 @@ gives agrees q st id k past loads began s kept at pending pends busy f does rang
 )
 
 -- each kind of atomic step: f is what the table does to the word
-pub allows : (agrees : Agrees) (q : Origin) (slots id : ℕ) (me : Me Unit View) (began : Bool) (s : Seat) (a : Access) (f : ℕ → ℕ) → Ready me began s → me.0.origin ≡ q → is_idle s.work ≡ false → a ≡ access_of s → ValuesFit a → ((x : ℕ) → f x ≡ changed (change_of a) x)
+pub allows : (agrees : Agrees) (q : Origin) (slots id : ℕ) (me : Me Unit View) (began : Bool) (s : Seat) (a : Access) (f : ℕ → ℕ) → ReadySeat me began s → me.0.origin ≡ q → is_idle s.work ≡ false → a ≡ access_of s → ValuesFit a → ((x : ℕ) → f x ≡ changed (change_of a) x)
     → Allows (Kept q) slots id me (place (base_of q.locations) (cell_of a)) f (Moved s began me)
 allows agrees q slots id me began s a f r from busy is ranged does = rw is
     (subst (λ m. Allows (Kept q) slots id m (place (base_of q.locations) (cell_of (access_of s))) f (Moved s began m)) (sym r.is)
@@ -239,13 +239,13 @@ allows agrees q slots id me began s a f r from busy is ranged does = rw is
     kept))
 
 -- the arm of a kind of atomic step
-pub arm : (agrees : Agrees) (q : Origin) (slots id : ℕ) (me : Me Unit View) (began : Bool) (s : Seat) (a : Access) (b : ℕ) (aim : Aim) (ch : Change) → Ready me began s → me.0.origin ≡ q → is_idle s.work ≡ false → a ≡ access_of s → ValuesFit a
+pub arm : (agrees : Agrees) (q : Origin) (slots id : ℕ) (me : Me Unit View) (began : Bool) (s : Seat) (a : Access) (b : ℕ) (aim : Aim) (ch : Change) → ReadySeat me began s → me.0.origin ≡ q → is_idle s.work ≡ false → a ≡ access_of s → ValuesFit a
     → b ≡ base_of q.locations → aim ≡ aim_of b a → aim.change ≡ ch → Allows (Kept q) slots id me aim.word (changed ch) (Moved s began me)
 arm agrees q slots id me began s a b aim ch r from busy is ranged base e c =
     subst (λ i. Allows (Kept q) slots id me i (changed ch) (Moved s began me)) (ap (λ n. place n (cell_of a)) (sym base) ∙ ap (λ (x : Aim). x.word) (sym e))
     (allows agrees q slots id me began s a (changed ch) r from busy is ranged (λ x. ap (λ d. changed d x) (sym c ∙ ap (λ (y : Aim). y.change) e)))
 
-pub within_table : (q : Origin) (me : Me Unit View) (began : Bool) (s : Seat) (a : Access) (b n : ℕ) (aim : Aim) → Ready me began s → me.0.origin ≡ q → is_idle s.work ≡ false → a ≡ access_of s
+pub within_table : (q : Origin) (me : Me Unit View) (began : Bool) (s : Seat) (a : Access) (b n : ℕ) (aim : Aim) → ReadySeat me began s → me.0.origin ≡ q → is_idle s.work ≡ false → a ≡ access_of s
     → b ≡ base_of q.locations → aim ≡ aim_of b a → n ≡ size_of q.locations (pool_size q.callers) → aim.word < n
 within_table q me began s a b n aim r from busy is base e size =
     let same : r.origin ≡ q = ap (λ (m : Me Unit View). m.0.origin) (sym r.is) ∙ from in
@@ -256,7 +256,7 @@ within_table q me began s a b n aim r from busy is base e size =
 
 -- ---- the seat after its step
 
-pub ready_after : (s t : Seat) (began : Bool) (me after : Me Unit View) (n : ℕ) → (r : Ready me began s) → Moved s began me n after → t ≡ (run (opening_of me.0.origin) (past_of after.0.parts)).seats (number_of me.0.parts) → Ready after false t
+pub ready_after : (s t : Seat) (began : Bool) (me after : Me Unit View) (n : ℕ) → (r : ReadySeat me began s) → Moved s began me n after → t ≡ (run (opening_of me.0.origin) (past_of after.0.parts)).seats (number_of me.0.parts) → ReadySeat after false t
 ready_after s t began me after n r m is =
     let o = opening_of me.0.origin in
     record {
@@ -273,11 +273,11 @@ ready_after s t began me after n r m is =
 
 -- the seat's answer is where the machine's stands
 pub answered : (s t : Seat) (began : Bool) (me after : Me Unit View) (n : ℕ) (a : Access) (f : Found) → (m : Moved s began me n after) → a ≡ access_of s → ((w : World) → CellFits w (cell_of a) → bits w (cell_of a) ≡ n → f ≡ found_at w a)
-    → t ≡ answer_of s f → t ≡ (run (opening_of me.0.origin) (past_of after.0.parts)).seats (number_of me.0.parts)
+    → t ≡ seat_answered s f → t ≡ (run (opening_of me.0.origin) (past_of after.0.parts)).seats (number_of me.0.parts)
 answered s t began me after n a f m is shows e =
     let o = opening_of me.0.origin in
     let st = m.2 in
     let w = (run o ((past_of me.0.parts ++ st.others) ++ st.pending)).world in
     let shows' = subst (λ b. (v : World) → CellFits v (cell_of b) → bits v (cell_of b) ≡ n → f ≡ found_at v b) is shows in
     let x : f ≡ found_at w (access_of s) = shows' w st.fits st.found in
-    e ∙ ap (answer_of s) x ∙ sym st.stands ∙ ap (λ (x : Me Unit View). (run o (past_of x.0.parts)).seats (number_of me.0.parts)) (sym m.1)
+    e ∙ ap (seat_answered s) x ∙ sym st.stands ∙ ap (λ (x : Me Unit View). (run o (past_of x.0.parts)).seats (number_of me.0.parts)) (sym m.1)

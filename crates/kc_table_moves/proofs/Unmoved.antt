@@ -11,7 +11,7 @@ use borrow.Author.Tests.{ne_eqb, eqb-true, ltb-true}
 use Rattle.atomic_table.specs.Table as table
 use Rattle.atomic_table.specs.Table.{Me, Allows, Enters, Splits, Joins, keeps, stepped}
 use Rattle.atomic_table.proofs.Lists.{at_set, at_snoc}
-use Rattle.kc_machine.specs.Machine.{Opening, opened, run, pool_size}
+use Rattle.kc_machine.specs.Machine.{Opening, opened_state, run, pool_size}
 use Rattle.kc_machine.specs.Schedules.{IsInRange}
 use Rattle.kc_machine_steps.specs.declared.task.Event.{Event}
 use Rattle.kc_table_layout.specs.kc_machine_traces.Parts.{NoneOf}
@@ -20,11 +20,11 @@ use Rattle.kc_model.proofs.Sums.{counted_cons, sum_set, sum_two}
 use Rattle.kc_model.specs.Word.{packed, unpacked, unpacked_reference}
 use Rattle.kc_model.specs.declared.footprint.TheConstants.{LAST_VERSION}
 use Rattle.kc_model.specs.declared.word.Word.TheVariants.{Plain}
-use Rattle.kc_table_layout.specs.Cells.{AllFit, Cell, IsThere, place, bits, signal_bit, Stores}
+use Rattle.kc_table_layout.specs.Cells.{AllCellsFit, Cell, IsThere, place, bits, signal_bit, Stores}
 use Rattle.kc_table_layout.specs.Cells.Cell.{none, word, awaiters, control, status, owner, first, second, signal}
 use Rattle.kc_table_layout.specs.Opened.{opening_at}
-use Rattle.kc_table_moves.specs.Origins.{Origin, version_in, value_in, word_in, opening_of}
-use Rattle.kc_table_moves.specs.Rule.{part, view, fresh_parts, everyone, Fits, EachFits, FitsView, is_seat, Kept, loads_of, number_of, past_of, glanced, seat_dealt, seats_left, noted, no_seats, nothing_known, hearing, seats_gathered, Merged, Heard, Ended}
+use Rattle.kc_table_moves.specs.Origins.{Origin, version_in, value_in, unpacked_word, opening_of}
+use Rattle.kc_table_moves.specs.Rule.{part, view, fresh_parts, everyone, Fits, EachFits, FitsView, is_seat, Kept, loads_of, number_of, past_of, glanced, seat_dealt, seats_left, noted, no_seats, nothing_known, hearing, seats_gathered, Merged, Heard, ScheduleEnded}
 use Rattle.kc_table_moves.specs.declared.view.Part.{Part}
 use Rattle.kc_table_moves.specs.declared.view.View.{View}
 use Rattle.kc_table_views.specs.Known.{IsMeant, IsPrefix}
@@ -108,13 +108,13 @@ in_range q l c g = record {
 
 -- the words say the opening that they were made of
 pub opening_words : (q : Origin) (values versions : List ℕ) → ((l : ℕ) → l < q.locations → (get_or versions l 0 < 2 ^ 31) × (get_or values l 0 < 2 ^ 32))
-    → Stores q.locations (pool_size q.callers) (opened (opening_at values versions q.callers q.generation)).world q.words → Stores q.locations (pool_size q.callers) (opened (opening_of q)).world q.words
+    → Stores q.locations (pool_size q.callers) (opened_state (opening_at values versions q.callers q.generation)).world q.words → Stores q.locations (pool_size q.callers) (opened_state (opening_of q)).world q.words
 opening_words q values versions small s = record { size = s.size; words = λ c p. s.words c p ∙ go c p }
   where
-    go : (c : Cell) → IsThere q.locations (pool_size q.callers) c → bits (opened (opening_at values versions q.callers q.generation)).world c ≡ bits (opened (opening_of q)).world c
+    go : (c : Cell) → IsThere q.locations (pool_size q.callers) c → bits (opened_state (opening_at values versions q.callers q.generation)).world c ≡ bits (opened_state (opening_of q)).world c
     go none p = refl
     go (word l) p =
-        let e : word_in q.words l ≡ Plain (get_or versions l 0) (get_or values l 0) = ap unpacked (s.words (word l) p) ∙ unpacked_plain _ _ (small l p).0 (small l p).1 in
+        let e : unpacked_word q.words l ≡ Plain (get_or versions l 0) (get_or values l 0) = ap unpacked (s.words (word l) p) ∙ unpacked_plain _ _ (small l p).0 (small l p).1 in
         sym (ap (λ x. packed (Plain (version_in x) (value_in x))) e)
     go (awaiters l) p = refl
     go (control d) p = refl
@@ -142,7 +142,7 @@ one_fresh j k (suc n) = by_test (eqb k j) refl (one_fresh j (suc k) n)
         let z = none_below j (suc k) n (let q = eqb-true k j e in omega arith) in omega arith
     by_test false e r = let c = counted_cons (is_seat j) (part k [] 0) (fresh_parts (suc k) n) false e in omega arith
 
-opened_fits : (q : Origin) → q.generation ≤ LAST_GENERATION → AllFit q.locations (pool_size q.callers) (opened (opening_of q)).world
+opened_fits : (q : Origin) → q.generation ≤ LAST_GENERATION → AllCellsFit q.locations (pool_size q.callers) (opened_state (opening_of q)).world
 opened_fits q g none p = tt
 opened_fits q g (word l) p = (let v = version_small (slice_index q.words (place 0 (word l))) in omega arith, value_small _)
 opened_fits q g (awaiters l) p = tt
@@ -153,7 +153,7 @@ opened_fits q g (first d k) p = (omega arith, omega arith)
 opened_fits q g (second d k) p = (omega arith, omega arith)
 opened_fits q g (signal c) p = tt
 
-pub opens : (q : Origin) → q.locations ≤ 65536 → q.callers ≤ 64 → q.generation ≤ LAST_GENERATION → Stores q.locations (pool_size q.callers) (opened (opening_of q)).world q.words
+pub opens : (q : Origin) → q.locations ≤ 65536 → q.callers ≤ 64 → q.generation ≤ LAST_GENERATION → Stores q.locations (pool_size q.callers) (opened_state (opening_of q)).world q.words
     → Kept q (table.opening q.words [] (everyone q))
 opens q l c g s = record {
   schedule = [];
@@ -247,7 +247,7 @@ merges q slots id me i k past loads is from st kept count at small =
           ),
     )
 
-pub ends : (q : Origin) (slots id : ℕ) (me : Me Unit View) (i : ℕ) → me.0.origin ≡ q → Allows (Kept q) slots id me i (λ x. x) (λ found after. Ended me after)
+pub ends : (q : Origin) (slots id : ℕ) (me : Me Unit View) (i : ℕ) → me.0.origin ≡ q → Allows (Kept q) slots id me i (λ x. x) (λ found after. ScheduleEnded me after)
 ends q slots id me i from st kept count at small =
     let es = kept.schedule in
     let mine = kept.views id me.0 at in (

@@ -6,8 +6,8 @@ use Rattle.atomic_table.specs.Table.{Me}
 use Rattle.kc_machine_steps.specs.declared.pass.PassStep.TheVariants as pass
 use Rattle.kc_machine_words.specs.declared.words.Phase.TheVariants.{Succeeded}
 use Rattle.kc_machine.specs.Machine.{World, found_at, pool_size}
-use Rattle.kc_machine.specs.Points.{point, seat_at}
-use Rattle.kc_machine.specs.Seats.{access_of, answer_of}
+use Rattle.kc_machine.specs.Points.{point, seat_at_point}
+use Rattle.kc_machine.specs.Seats.{access_of, seat_answered}
 use Rattle.kc_machine.specs.declared.point.Point.{Point}
 use Rattle.kc_machine.specs.declared.seat.Seat.{Seat}
 use Rattle.kc_table_layout.specs.kc_machine_commits.declared.commit.OwnStep.TheVariants as own
@@ -20,8 +20,8 @@ use Rattle.kc_table_layout.specs.Cells.{CellFits, base_of, bits, cell_of, place,
 use Rattle.kc_table_layout.specs.Changes.{change_of, changed}
 use Rattle.kc_table_layout.specs.declared.change.Change.{Change}
 use Rattle.kc_table_moves.specs.Origins.{Origin}
-use Rattle.kc_table_moves.specs.Rule.{Moved, Ready, glanced}
-use Rattle.kc_table_moves.specs.Views.{SeatView, StepsTo, seen_as}
+use Rattle.kc_table_moves.specs.Rule.{Moved, ReadySeat, glanced}
+use Rattle.kc_table_moves.specs.Views.{SeatView, StepsTo, seat_seen_as}
 use Rattle.kc_table_moves.specs.declared.atoms.Held.{Held}
 use Rattle.kc_table_moves.specs.declared.atoms.Run.{Run}
 use Rattle.kc_table_moves.specs.declared.atoms.Stop.{Stop}
@@ -39,13 +39,13 @@ pub record Here (q : Origin) (z : TableId) (base : ℕ) (token : TableId) (me : 
 
 -- the seat of a run at this point, which is not written
 abbrev pub seat_in : Run → Point → Seat
-seat_in r p = seat_at r.seat.now r.mode r.lines.now p
+seat_in r p = seat_at_point r.seat.now r.mode r.lines.now p
 
 -- from `start` the seat has come by steps to where it stands as s; `began`: none of them has shown its task yet
 pub record On (start : SeatView) (r : Run) (token : TableId) (me : Me Unit View) (began : Bool) (s : Seat) : Type 0 where
   pub here : Here r.words.now.key r.words.now.table_id r.base token me
-  pub ready : Ready me began s
-  pub steps : StepsTo start (seen_as token me began s)
+  pub ready : ReadySeat me began s
+  pub steps : StepsTo start (seat_seen_as token me began s)
 
 -- the access of s is on this word, and makes this of it
 pub record Aims (q : Origin) (s : Seat) (word : ℕ) (ch : Change) : Type 0 where
@@ -58,7 +58,7 @@ pub record Went (start : SeatView) (r : Run) (token : TableId) (later : Me Unit 
   pub world : World
   pub fits : CellFits world (cell_of (access_of s))
   pub found : bits world (cell_of (access_of s)) ≡ n
-  pub on : On start r token later false (answer_of s (found_at world (access_of s)))
+  pub on : On start r token later false (seat_answered s (found_at world (access_of s)))
 
 -- whether the next step of s leaves this number as it stands
 abbrev pub leaves : Seat → ℕ → Bool

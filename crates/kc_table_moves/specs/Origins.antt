@@ -2,7 +2,7 @@
 use Rattle.std.specs.Prelude.{◌≤◌, ℕ, List, slice_index}
 use Rattle.kc_model.specs.declared.plain_store.TheConstants.{MOST_LOCATIONS}
 use Rattle.kc_machine.specs.declared.machine.TheConstants.{MOST_CALLERS}
-use Rattle.kc_machine.specs.Machine.{Opening, opened, pool_size}
+use Rattle.kc_machine.specs.Machine.{Opening, opened_state, pool_size}
 use Rattle.kc_machine_words.specs.declared.words.TheConstants.{LAST_GENERATION}
 use Rattle.kc_model.specs.Word.{unpacked}
 use Rattle.kc_model.specs.declared.word.Word.{Word}
@@ -24,22 +24,22 @@ abbrev pub value_in : Word → ℕ
 value_in (Plain v x) = x
 value_in (Ref g d i) = 0
 
-abbrev pub word_in : List ℕ → ℕ → Word
-word_in ws l = unpacked (slice_index ws (place 0 (word l)))
+abbrev pub unpacked_word : List ℕ → ℕ → Word
+unpacked_word ws l = unpacked (slice_index ws (place 0 (word l)))
 
 -- the opening that an origin stands for
 abbrev pub opening_of : Origin → Opening
 opening_of q = record {
   locations = q.locations;
   callers = q.callers;
-  version = λ l. version_in (word_in q.words l);
-  value = λ l. value_in (word_in q.words l);
+  version = λ l. version_in (unpacked_word q.words l);
+  value = λ l. value_in (unpacked_word q.words l);
   generation = q.generation;
 }
 
 -- its words are those of that opening
-pub record Opens (q : Origin) : Type 0 where
+pub record OriginOpens (q : Origin) : Type 0 where
   pub locations : q.locations ≤ MOST_LOCATIONS
   pub callers : q.callers ≤ MOST_CALLERS
   pub generation : q.generation ≤ LAST_GENERATION
-  pub words : Stores q.locations (pool_size q.callers) (opened (opening_of q)).world q.words
+  pub words : Stores q.locations (pool_size q.callers) (opened_state (opening_of q)).world q.words

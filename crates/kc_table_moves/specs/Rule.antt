@@ -6,12 +6,12 @@ use lib.ListN.{get_elem?}
 use Rattle.atomic_table.specs.Table as table
 use Rattle.atomic_table.specs.Table.{Me}
 use Rattle.kc_machine.specs.Machine.{Opening, run, found_at, pool_size}
-use Rattle.kc_machine.specs.Seats.{access_of, answer_of}
+use Rattle.kc_machine.specs.Seats.{access_of, seat_answered}
 use Rattle.kc_machine.specs.declared.seat.Seat.{Seat}
 use Rattle.kc_machine_steps.specs.declared.task.Event.{Event}
 use Rattle.kc_machine_steps.specs.declared.task.Event.TheVariants.{Step}
 use Rattle.kc_table_layout.specs.kc_machine_traces.Parts.{NoneOf}
-use Rattle.kc_table_layout.specs.Cells.{AllFit, CellFits, Stores, bits, cell_of, place, signal_bit}
+use Rattle.kc_table_layout.specs.Cells.{AllCellsFit, CellFits, Stores, bits, cell_of, place, signal_bit}
 use Rattle.kc_table_layout.specs.Cells.Cell.{signal}
 use Rattle.kc_table_moves.specs.Origins.{Origin, opening_of}
 use Rattle.kc_table_moves.specs.declared.view.Part.{Part}
@@ -57,7 +57,7 @@ pub record Kept (q : Origin) (s : table.State Unit View) : Type 0 where
   pub schedule : List Event
   pub meant : IsMeant (opening_of q) schedule
   pub words : Stores q.locations (pool_size q.callers) (run (opening_of q) schedule).world s.words
-  pub fits : AllFit q.locations (pool_size q.callers) (run (opening_of q) schedule).world
+  pub fits : AllCellsFit q.locations (pool_size q.callers) (run (opening_of q) schedule).world
   pub views : (i : ℕ) (v : View) → get_elem? s.views i ≡ some v → FitsView q schedule v
   pub once : (k : ℕ) → sum_by (λ (v : View). count_by (is_seat k) v.parts) s.views ≤ 1
 
@@ -84,7 +84,7 @@ abbrev pub Glanced : ℕ → Me Unit View → Me Unit View → Type 0
 Glanced most me after = (n : ℕ) × (n ≤ most) × (after ≡ glanced n me)
 
 -- the view of a seat that stands as s, save that it may have begun and halted tasks since its last step; `began` says whether it has begun one
-pub record Ready (me : Me Unit View) (began : Bool) (s : Seat) : Type 0 where
+pub record ReadySeat (me : Me Unit View) (began : Bool) (s : Seat) : Type 0 where
   pub origin : Origin
   pub number : ℕ
   pub past : List Event
@@ -105,7 +105,7 @@ pub record Steps (o : Opening) (k : ℕ) (past : List Event) (began : Bool) (s :
   pub pends : Pends o k past began pending s
   pub fits : CellFits (run o ((past ++ others) ++ pending)).world (cell_of (access_of s))
   pub found : bits (run o ((past ++ others) ++ pending)).world (cell_of (access_of s)) ≡ n
-  pub stands : (run o late).seats k ≡ answer_of s (found_at (run o ((past ++ others) ++ pending)).world (access_of s))
+  pub stands : (run o late).seats k ≡ seat_answered s (found_at (run o ((past ++ others) ++ pending)).world (access_of s))
   pub meant : IsMeant o late
 
 abbrev pub Moved : Seat → Bool → Me Unit View → ℕ → Me Unit View → Type 0
@@ -126,8 +126,8 @@ seat_dealt v = view v.origin (take 1 v.parts) []
 abbrev pub seats_left : View → View
 seats_left v = view v.origin (drop 1 v.parts) v.heard
 
-abbrev pub note_view : Origin → List Event → View
-note_view q past = view q [] past
+abbrev pub noted_view : Origin → List Event → View
+noted_view q past = view q [] past
 
 -- what a note of the seat knows
 abbrev pub noted : View → View
@@ -137,11 +137,11 @@ noted v = view v.origin [] (past_of v.parts)
 abbrev pub no_seats : Origin → View
 no_seats q = view q [] []
 
-abbrev pub nowhere : Origin
-nowhere = record { words = []; locations = 0; callers = 0; generation = 0 }
+abbrev pub empty_origin : Origin
+empty_origin = record { words = []; locations = 0; callers = 0; generation = 0 }
 
 abbrev pub nothing_known : View
-nothing_known = no_seats nowhere
+nothing_known = no_seats empty_origin
 
 -- a seat with what a note knows
 abbrev pub hearing : View → View → View
@@ -159,8 +159,8 @@ Merged me after =
     × IsMeant (opening_of me.0.origin) (past ++ others)
 
 -- the schedule is here, and goes on from what each seat knows, without it
-abbrev pub Ended : Me Unit View → Me Unit View → Type 0
-Ended me after =
+abbrev pub ScheduleEnded : Me Unit View → Me Unit View → Type 0
+ScheduleEnded me after =
     (es : List Event) × (after ≡ (view me.0.origin me.0.parts es, me.1)) × EachFits (opening_of me.0.origin) es me.0.parts × IsMeant (opening_of me.0.origin) es
 
 -- a seat loads its signal: it knows the schedule as it stands, and the signal there

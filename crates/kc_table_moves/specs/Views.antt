@@ -5,16 +5,16 @@ use Rattle.atomic_table.specs.Seated.{TableId}
 use Rattle.kc_machine.specs.Machine.{Opening, run, pool_size}
 use Rattle.kc_machine.specs.Seats.{begun, fresh, is_idle, own_of}
 use Rattle.kc_machine.specs.declared.seat.Seat.{Seat}
-use Rattle.kc_table_layout.specs.kc_machine_traces.Histories.{History, Grows, ending}
+use Rattle.kc_table_layout.specs.kc_machine_traces.Histories.{History, Grows, ending_store}
 use Rattle.kc_table_layout.specs.kc_machine_traces.Traces.{first_store, BeginsHonestly}
 use Rattle.kc_machine_steps.specs.declared.task.Event.{Event}
 use Rattle.kc_machine_steps.specs.declared.task.Event.TheVariants.{Begin}
 use Rattle.kc_machine_steps.specs.declared.task.Task.{Task}
-use Rattle.kc_table_layout.specs.kc_machine_traces.Entries.{by}
+use Rattle.kc_table_layout.specs.kc_machine_traces.Entries.{placed_by}
 use Rattle.kc_model.specs.declared.footprint.Seen.{Seen}
 use Rattle.kc_model.specs.declared.plain_store.Cell.{Cell}
 use Rattle.kc_model.specs.declared.word.Word.{Word}
-use Rattle.kc_table_moves.specs.Origins.{Origin, opening_of, version_in, value_in, word_in}
+use Rattle.kc_table_moves.specs.Origins.{Origin, opening_of, version_in, value_in, unpacked_word}
 use Rattle.kc_table_views.specs.Known.{known, IsMeant, IsPrefix, IsWhole, GoesOn, KnowsAPart, OwnsNone}
 use Rattle.atomic_table.specs.Table.{Me}
 use Rattle.kc_table_moves.specs.Rule.{Steps, loads_of, number_of, past_of}
@@ -36,8 +36,8 @@ pub record SeatView : Type 0 where
   pub loads : ℕ
 
 -- of a seat with this token, that stands so
-abbrev pub seen_as : TableId → Me Unit View → Bool → Seat → SeatView
-seen_as z me began s = record { of = record { table = z; origin = me.0.origin }; number = number_of me.0.parts; past = past_of me.0.parts; began = began; seat = s; loads = loads_of me.0.parts }
+abbrev pub seat_seen_as : TableId → Me Unit View → Bool → Seat → SeatView
+seat_seen_as z me began s = record { of = record { table = z; origin = me.0.origin }; number = number_of me.0.parts; past = past_of me.0.parts; began = began; seat = s; loads = loads_of me.0.parts }
 
 abbrev pub opening_at_seat : SeatView → Opening
 opening_at_seat v = opening_of v.of.origin
@@ -94,17 +94,17 @@ pub record Learns (v w : SeatView) : Type 0 where
   pub seat : w.seat ≡ v.seat
   pub on : GoesOn v.number v.past w.past
   pub meant : IsMeant (opening_at_seat v) w.past
-  pub own : is_some (own_of v.seat) ≡ false → by v.number (knows w) ≡ by v.number (knows v)
+  pub own : is_some (own_of v.seat) ≡ false → placed_by v.number (knows w) ≡ placed_by v.number (knows v)
 
 -- ---- notes
 
 -- a note, and the schedule that its seat knew
-pub record NoteView : Type 0 where
+pub record TableNoteView : Type 0 where
   pub of : TableView
   pub past : List Event
 
 -- after a join the seat knows all that it and the note knew
-pub record Joined (v : SeatView) (note : NoteView) (w : SeatView) : Type 0 where
+pub record Joined (v : SeatView) (note : TableNoteView) (w : SeatView) : Type 0 where
   pub learns : Learns v w
   pub told : IsPrefix note.past w.past
   pub grows : Grows (knows v) (knows w)
@@ -150,7 +150,7 @@ pub record AreAll (z : TableView) (seats : List SeatView) : Type 0 where
   pub all : IsPermutation (count_from 0 z.origin.callers) (numbers seats)
 
 -- the opening, and the one schedule
-pub record PastView : Type 0 where
+pub record TablePastView : Type 0 where
   pub origin : Origin
   pub schedule : List Event
 
@@ -159,7 +159,7 @@ abbrev pub IsPart : Opening → List Event → SeatView → Type 0
 IsPart o es s = GoesOn s.number s.past es × KnowsAPart s.number (known o es) (knows s)
 
 -- an honest schedule that goes on from what each seat knew; its history is legal from the opening, has no call twice, and just the seats' own entries
-pub record IsPast (z : TableView) (seats : List SeatView) (p : PastView) : Type 0 where
+pub record IsPast (z : TableView) (seats : List SeatView) (p : TablePastView) : Type 0 where
   pub origin : p.origin ≡ z.origin
   pub meant : IsMeant (opening_of p.origin) p.schedule
   pub whole : IsWhole (opening_of p.origin) (known (opening_of p.origin) p.schedule)
@@ -169,22 +169,22 @@ pub record IsPast (z : TableView) (seats : List SeatView) (p : PastView) : Type 
 pub record ClosedView : Type 0 where
   pub seen : List Seen
 
-abbrev pub seen_at : ℕ → Cell → Seen
-seen_at l c = record { loc = record { 0 = l }; version = c.version; value = c.value }
+abbrev pub seen_cell_at : ℕ → Cell → Seen
+seen_cell_at l c = record { loc = record { 0 = l }; version = c.version; value = c.value }
 
 -- the store at the end of such a schedule
 pub record IsClosed (z : TableView) (seats : List SeatView) (c : ClosedView) : Type 0 where
   pub schedule : List Event
   pub past : IsPast z seats (record { origin = z.origin; schedule = schedule })
   pub locations : length c.seen ≡ z.origin.locations
-  pub each : (l : ℕ) → l < z.origin.locations → slice_get c.seen l ≡ Some (seen_at l (ending (first_store (opening_of z.origin)) (known (opening_of z.origin) schedule) l))
+  pub each : (l : ℕ) → l < z.origin.locations → slice_get c.seen l ≡ Some (seen_cell_at l (ending_store (first_store (opening_of z.origin)) (known (opening_of z.origin) schedule) l))
 
 -- what a word says that is plain
 abbrev pub seen_of : ℕ → Word → Seen
-seen_of l w = seen_at l (record { version = version_in w; value = value_in w })
+seen_of l w = seen_cell_at l (record { version = version_in w; value = value_in w })
 
 abbrev pub seen_in : List ℕ → ℕ → Seen
-seen_in ws l = seen_of l (word_in ws l)
+seen_in ws l = seen_of l (unpacked_word ws l)
 
 -- each part is of the seat at its place, which owned nothing at its last step
 abbrev pub Matches : Opening → List Part → List SeatView → Type 0

@@ -5,7 +5,7 @@ ghost use Rattle.kc_model.specs.Word.{IsPackable, packed, unpacked};
 ghost use Rattle.kc_machine.specs.Seats.{access_of, is_idle};
 ghost use Rattle.kc_table_layout.specs.Changes.{change_of, changed};
 ghost use Rattle.kc_table_layout.specs.declared.change.Change.TheVariants as change;
-ghost use Rattle.kc_table_moves.specs.Rule.{Glanced, Moved, MovedWithin, Ready};
+ghost use Rattle.kc_table_moves.specs.Rule.{Glanced, Moved, MovedWithin, ReadySeat};
 ghost use Rattle.kc_table_moves.specs.declared.view.TheConstants.{MOST_LOADS};
 ghost use Rattle.kc_table_moves.specs.Atoms.{Aims, Here, On, Peeked, Went, found_of, is_plain, leaves, point_of, seat_in, stage_of};
 
@@ -124,16 +124,16 @@ pub trait Chain {
 impl Chain for Brand {
     ghost use Rattle.std.specs.Prelude.{[], false};
     ghost use Rattle.kc_machine.specs.Seats.{fresh};
-    ghost use Rattle.kc_table_moves.specs.Rule.{nowhere};
+    ghost use Rattle.kc_table_moves.specs.Rule.{empty_origin};
 
-    ghost start = { record { of = record { table = record { words = 0; slots = 0; views_name = 0; atom = 0; block = 0; offset = 0; slot_names = [] }; origin = nowhere }; number = 0; past = []; began = false; seat = fresh 0 0 0; loads = 0 } };
+    ghost start = { record { of = record { table = record { words = 0; slots = 0; views_name = 0; atom = 0; block = 0; offset = 0; slot_names = [] }; origin = empty_origin }; number = 0; past = []; began = false; seat = fresh 0 0 0; loads = 0 } };
 }
 
 // A load by the seat that B names.
 #[inline(always)]
 pub fn load<B: Now>(words: &Words, token: &mut Token, base: usize, word: usize) -> u64
     requires here { Here words.now.key words.now.table_id base token.old.table_id token.old.me }
-    requires seat { (is_idle B.now.work ≡ false) × Ready token.old.me B.began B.now }
+    requires seat { (is_idle B.now.work ≡ false) × ReadySeat token.old.me B.began B.now }
     requires aim { Aims words.now.key B.now word change.Load }
     ensures table { token.new.table_id ≡ token.old.table_id }
     ensures moved { Moved B.now B.began token.old.me result token.new.me }
@@ -147,7 +147,7 @@ pub fn load<B: Now>(words: &Words, token: &mut Token, base: usize, word: usize) 
 #[inline(always)]
 fn load_at<B: Now>(run: &Run, token: &mut Token, _began: bool, _at: Point, word: usize) -> u64
     requires here { Here run.now.words.now.key run.now.words.now.table_id run.now.base token.old.table_id token.old.me }
-    requires seat { (is_idle B.now.work ≡ false) × Ready token.old.me B.began B.now }
+    requires seat { (is_idle B.now.work ≡ false) × ReadySeat token.old.me B.began B.now }
     requires aim { Aims run.now.words.now.key B.now word change.Load }
     ensures table { token.new.table_id ≡ token.old.table_id }
     ensures moved { Moved B.now B.began token.old.me result token.new.me }
@@ -169,7 +169,7 @@ pub fn loads<C: Chain>(run: &Run, token: &mut Token, began: bool, at: Point, wor
 #[inline(always)]
 fn swap_in<B: Now>(words: &Words, token: &mut Token, base: usize, word: usize, new: u64) -> u64
     requires here { Here words.now.key words.now.table_id base token.old.table_id token.old.me }
-    requires seat { (is_idle B.now.work ≡ false) × Ready token.old.me B.began B.now }
+    requires seat { (is_idle B.now.work ≡ false) × ReadySeat token.old.me B.began B.now }
     requires aim { Aims words.now.key B.now word (change.Swap new) }
     ensures table { token.new.table_id ≡ token.old.table_id }
     ensures moved { Moved B.now B.began token.old.me result token.new.me }
@@ -183,7 +183,7 @@ fn swap_in<B: Now>(words: &Words, token: &mut Token, base: usize, word: usize, n
 #[inline(always)]
 fn swap_at<B: Now>(run: &Run, token: &mut Token, _at: Point, word: usize, new: u64) -> u64
     requires here { Here run.now.words.now.key run.now.words.now.table_id run.now.base token.old.table_id token.old.me }
-    requires seat { (is_idle B.now.work ≡ false) × Ready token.old.me B.began B.now }
+    requires seat { (is_idle B.now.work ≡ false) × ReadySeat token.old.me B.began B.now }
     requires aim { Aims run.now.words.now.key B.now word (change.Swap new) }
     ensures table { token.new.table_id ≡ token.old.table_id }
     ensures moved { Moved B.now B.began token.old.me result token.new.me }
@@ -239,7 +239,7 @@ impl<B: Asks> Play<(), View> for Peeks<B> {
 #[inline(always)]
 pub fn peek<B: Asks>(words: &Words, token: &mut Token, base: usize, word: usize) -> u64
     requires here { Here words.now.key words.now.table_id base token.old.table_id token.old.me }
-    requires seat { (is_idle B.now.work ≡ false) × Ready token.old.me B.began B.now }
+    requires seat { (is_idle B.now.work ≡ false) × ReadySeat token.old.me B.began B.now }
     requires aim { Aims words.now.key B.now word (change_of (access_of B.now)) }
     requires stays { (n : ℕ) → B.takes n ≡ true → changed (change_of (access_of B.now)) n ≡ n }
     ensures table { token.new.table_id ≡ token.old.table_id }
@@ -254,7 +254,7 @@ pub fn peek<B: Asks>(words: &Words, token: &mut Token, base: usize, word: usize)
 #[inline(always)]
 fn peek_at<B: Asks>(run: &Run, token: &mut Token, _at: Point, word: usize) -> u64
     requires here { Here run.now.words.now.key run.now.words.now.table_id run.now.base token.old.table_id token.old.me }
-    requires seat { (is_idle B.now.work ≡ false) × Ready token.old.me B.began B.now }
+    requires seat { (is_idle B.now.work ≡ false) × ReadySeat token.old.me B.began B.now }
     requires aim { Aims run.now.words.now.key B.now word (change_of (access_of B.now)) }
     requires stays { (n : ℕ) → B.takes n ≡ true → changed (change_of (access_of B.now)) n ≡ n }
     ensures table { token.new.table_id ≡ token.old.table_id }
@@ -267,7 +267,7 @@ fn peek_at<B: Asks>(run: &Run, token: &mut Token, _at: Point, word: usize) -> u6
 #[inline(always)]
 pub fn clear<B: Asks>(words: &Words, token: &mut Token, base: usize, word: usize) -> u64
     requires here { Here words.now.key words.now.table_id base token.old.table_id token.old.me }
-    requires seat { (is_idle B.now.work ≡ false) × Ready token.old.me B.began B.now }
+    requires seat { (is_idle B.now.work ≡ false) × ReadySeat token.old.me B.began B.now }
     requires aim { Aims words.now.key B.now word (change.Swap 0) }
     requires takes { (n : ℕ) → B.takes n ≡ leaves B.now n }
     ensures table { token.new.table_id ≡ token.old.table_id }
@@ -284,7 +284,7 @@ pub fn clear<B: Asks>(words: &Words, token: &mut Token, base: usize, word: usize
 #[inline(always)]
 fn clear_at<B: Asks>(run: &Run, token: &mut Token, _at: Point, word: usize) -> u64
     requires here { Here run.now.words.now.key run.now.words.now.table_id run.now.base token.old.table_id token.old.me }
-    requires seat { (is_idle B.now.work ≡ false) × Ready token.old.me B.began B.now }
+    requires seat { (is_idle B.now.work ≡ false) × ReadySeat token.old.me B.began B.now }
     requires aim { Aims run.now.words.now.key B.now word (change.Swap 0) }
     requires takes { (n : ℕ) → B.takes n ≡ leaves B.now n }
     ensures table { token.new.table_id ≡ token.old.table_id }
@@ -314,7 +314,7 @@ pub fn exchange<B: Now>(
     new: u64,
 ) -> u64
     requires here { Here words.now.key words.now.table_id base token.old.table_id token.old.me }
-    requires seat { (is_idle B.now.work ≡ false) × Ready token.old.me B.began B.now }
+    requires seat { (is_idle B.now.work ≡ false) × ReadySeat token.old.me B.began B.now }
     requires aim { Aims words.now.key B.now word (change.CompareExchange old new) }
     ensures table { token.new.table_id ≡ token.old.table_id }
     ensures moved { Moved B.now B.began token.old.me result token.new.me }
@@ -335,7 +335,7 @@ fn exchange_at<B: Now>(
     new: u64,
 ) -> u64
     requires here { Here run.now.words.now.key run.now.words.now.table_id run.now.base token.old.table_id token.old.me }
-    requires seat { (is_idle B.now.work ≡ false) × Ready token.old.me B.began B.now }
+    requires seat { (is_idle B.now.work ≡ false) × ReadySeat token.old.me B.began B.now }
     requires aim { Aims run.now.words.now.key B.now word (change.CompareExchange old new) }
     ensures table { token.new.table_id ≡ token.old.table_id }
     ensures moved { Moved B.now B.began token.old.me result token.new.me }
@@ -400,7 +400,7 @@ pub fn is_plain(number: u64) -> bool
 #[inline(never)]
 fn wait<B: Asks>(words: &Words, token: &mut Token, base: usize, word: usize, own: u64)
     requires here { Here words.now.key words.now.table_id base token.old.table_id token.old.me }
-    requires seat { (is_idle B.now.work ≡ false) × Ready token.old.me B.began B.now }
+    requires seat { (is_idle B.now.work ≡ false) × ReadySeat token.old.me B.began B.now }
     requires aim { Aims words.now.key B.now word (change_of (access_of B.now)) }
     requires none { (n : ℕ) → B.takes n ≡ false }
     ensures table { token.new.table_id ≡ token.old.table_id }
@@ -418,7 +418,7 @@ fn wait<B: Asks>(words: &Words, token: &mut Token, base: usize, word: usize, own
 #[inline(always)]
 fn glance<B: Asks>(run: &Run, token: &mut Token, _at: Point, word: usize, own: u64)
     requires here { Here run.now.words.now.key run.now.words.now.table_id run.now.base token.old.table_id token.old.me }
-    requires seat { (is_idle B.now.work ≡ false) × Ready token.old.me B.began B.now }
+    requires seat { (is_idle B.now.work ≡ false) × ReadySeat token.old.me B.began B.now }
     requires aim { Aims run.now.words.now.key B.now word (change_of (access_of B.now)) }
     requires none { (n : ℕ) → B.takes n ≡ false }
     ensures table { token.new.table_id ≡ token.old.table_id }
@@ -453,7 +453,7 @@ pub fn exchanges_late<C: Chain>(
 #[inline(always)]
 fn subtract_at<B: Now>(run: &Run, token: &mut Token, _at: Point, word: usize) -> u64
     requires here { Here run.now.words.now.key run.now.words.now.table_id run.now.base token.old.table_id token.old.me }
-    requires seat { (is_idle B.now.work ≡ false) × Ready token.old.me B.began B.now }
+    requires seat { (is_idle B.now.work ≡ false) × ReadySeat token.old.me B.began B.now }
     requires aim { Aims run.now.words.now.key B.now word (change.SubtractOne) }
     ensures table { token.new.table_id ≡ token.old.table_id }
     ensures moved { Moved B.now B.began token.old.me result token.new.me }

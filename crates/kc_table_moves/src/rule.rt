@@ -46,9 +46,9 @@ impl<B: Now> Play<(), View> for Moves<B> {
 pub struct Shows;
 
 impl Play<(), View> for Shows {
-    ghost use Rattle.kc_table_moves.specs.Rule.{Ended};
+    ghost use Rattle.kc_table_moves.specs.Rule.{ScheduleEnded};
 
-    ghost then = { λ step me found after. Ended me after };
+    ghost then = { λ step me found after. ScheduleEnded me after };
 }
 
 /// A load with which a seat takes in what it heard.

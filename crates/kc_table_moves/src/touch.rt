@@ -5,7 +5,7 @@ ghost use Rattle.kc_model.specs.declared.plain_store.TheConstants.{MOST_LOCATION
 ghost use Rattle.kc_table_layout.specs.Cells.{base_of, size_of};
 ghost use Rattle.kc_machine.specs.Machine.{pool_size};
 ghost use Rattle.kc_machine.specs.Seats.{access_of, is_idle};
-ghost use Rattle.kc_table_moves.specs.Rule.{Moved, Ready};
+ghost use Rattle.kc_table_moves.specs.Rule.{Moved, ReadySeat};
 
 use crate::rule::Now;
 use crate::words::{Token, Words};
@@ -24,7 +24,7 @@ pub fn touch_seat<B: Now>(
     base: usize,
 ) -> u64
     requires table { (token.old.table_id ≡ words.now.table_id) × (token.old.me.0.origin ≡ words.now.key) × (base ≡ base_of words.now.key.locations) × (words.now.key.locations ≤ MOST_LOCATIONS) × (words.now.table_id.words ≡ size_of words.now.key.locations (pool_size words.now.key.callers)) }
-    requires seat { (now.now ≡ B.now) × (began ≡ B.began) × (access ≡ access_of B.now) × (is_idle B.now.work ≡ false) × Ready token.old.me B.began B.now }
+    requires seat { (now.now ≡ B.now) × (began ≡ B.began) × (access ≡ access_of B.now) × (is_idle B.now.work ≡ false) × ReadySeat token.old.me B.began B.now }
     ensures table { token.new.table_id ≡ token.old.table_id }
     ensures moved { Moved B.now B.began token.old.me result token.new.me }
 {
@@ -37,7 +37,7 @@ pub fn touch_seat<B: Now>(
 #[inline(always)]
 fn touch<B: Now>(words: &Words, token: &mut Token, access: Access, base: usize) -> u64
     requires table { (token.old.table_id ≡ words.now.table_id) × (token.old.me.0.origin ≡ words.now.key) × (base ≡ base_of words.now.key.locations) × (words.now.key.locations ≤ MOST_LOCATIONS) × (words.now.table_id.words ≡ size_of words.now.key.locations (pool_size words.now.key.callers)) }
-    requires seat { (access ≡ access_of B.now) × (is_idle B.now.work ≡ false) × Ready token.old.me B.began B.now }
+    requires seat { (access ≡ access_of B.now) × (is_idle B.now.work ≡ false) × ReadySeat token.old.me B.began B.now }
     ensures table { token.new.table_id ≡ token.old.table_id }
     ensures moved { Moved B.now B.began token.old.me result token.new.me }
 {

@@ -6,7 +6,7 @@ ghost use prog.Atomic.{either};
 ghost use Rattle.std.specs.Mem.Slots.{IsFull, slots_items, slots_len};
 ghost use Rattle.atomic_table.specs.Table.{Final, Seen, opening};
 ghost use Rattle.kc_table_moves.specs.Atoms.{Peeked};
-ghost use Rattle.kc_table_moves.specs.Rule.{Ended, Heard, Kept, Merged, Moved, seat_dealt, everyone, seats_gathered, hearing, noted, no_seats, seats_left};
+ghost use Rattle.kc_table_moves.specs.Rule.{ScheduleEnded, Heard, Kept, Merged, Moved, seat_dealt, everyone, seats_gathered, hearing, noted, no_seats, seats_left};
 ghost use Rattle.kc_table_moves.specs.Words.{Permits};
 
 use crate::atoms::{Asks, Peeks};
@@ -204,7 +204,7 @@ impl Words {
     pub fn show(&mut self, keeper: &mut Token)
         requires { (keeper.old.table_id ≡ self.old.table_id) × (0 < self.old.table_id.words) × (keeper.old.me.0.origin ≡ self.old.key) }
         ensures words { self.new ≡ self.old }
-        ensures keeper { (keeper.new.table_id ≡ keeper.old.table_id) × Ended keeper.old.me keeper.new.me }
+        ensures keeper { (keeper.new.table_id ≡ keeper.old.table_id) × ScheduleEnded keeper.old.me keeper.new.me }
     {
         self.table.shared.load::<Shows>(keeper, 0);
     }

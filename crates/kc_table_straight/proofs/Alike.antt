@@ -4,8 +4,8 @@ use Rattle.std.specs.Prelude.{slice_get}
 use Rattle.atomic_table.specs.Seated.{TableId}
 use Rattle.atomic_table.specs.Table.{Me}
 use Rattle.kc_machine.specs.Machine.{found_at}
-use Rattle.kc_machine.specs.Points.{seat_at}
-use Rattle.kc_machine.specs.Seats.{access_of, answer_of}
+use Rattle.kc_machine.specs.Points.{seat_at_point}
+use Rattle.kc_machine.specs.Seats.{access_of, seat_answered}
 use Rattle.kc_machine.specs.declared.point.Point.{Point}
 use Rattle.kc_machine.specs.declared.seat.Seat.{Seat}
 use Rattle.kc_table_moves.specs.kc_machine_commits.declared.commit.OwnStep.TheVariants as own
@@ -16,7 +16,7 @@ use Rattle.kc_machine_words.specs.declared.words.Mode.{Mode}
 use Rattle.kc_machine_words.specs.declared.words.Phase.TheVariants.{Succeeded}
 use Rattle.kc_table_moves.specs.Origins.{Origin}
 use Rattle.kc_table_moves.specs.Atoms.{Here, On, Went, found_of, point_of, seat_in}
-use Rattle.kc_table_straight.specs.Straight.{IsOf, Paused, PausedAt, StandsAt, Stopped, StoppedAt, Surprised, at_own, surprise_of}
+use Rattle.kc_table_straight.specs.Straight.{IsOf, Paused, PausedAt, IsWrittenAt, Stopped, StoppedAt, Surprised, at_own, surprise_of}
 use Rattle.kc_table_moves.specs.Views.{SeatView}
 use Rattle.kc_table_moves.specs.declared.atoms.Held.{Held}
 use Rattle.kc_table_moves.specs.declared.atoms.Run.{Run}
@@ -29,7 +29,7 @@ use Rattle.kc_table_moves.specs.declared.view.View.{View}
 module _ (r u : Run) (q : Origin) (z : TableId) (b : ℕ) (s : Seat) (m : Mode) (xs : List Line) (x : IsOf r q z b s m xs) (y : IsOf u q z b s m xs) where
   seat_alike : (p : Point) → seat_in r p ≡ seat_in u p
   seat_alike p =
-      ap (λ v. seat_at v r.mode r.lines.now p) (x.seat ∙ sym y.seat) ∙ (ap (λ v. seat_at u.seat.now v r.lines.now p) (x.mode ∙ sym y.mode) ∙ ap (λ v. seat_at u.seat.now u.mode v p) (x.lines ∙ sym y.lines))
+      ap (λ v. seat_at_point v r.mode r.lines.now p) (x.seat ∙ sym y.seat) ∙ (ap (λ v. seat_at_point u.seat.now v r.lines.now p) (x.mode ∙ sym y.mode) ∙ ap (λ v. seat_at_point u.seat.now u.mode v p) (x.lines ∙ sym y.lines))
 
   module _ (start : SeatView) (token : TableId) (me : Me Unit View) where
     here_alike : Here r.words.now.key r.words.now.table_id r.base token me → Here u.words.now.key u.words.now.table_id u.base token me
@@ -41,7 +41,7 @@ module _ (r u : Run) (q : Origin) (z : TableId) (b : ℕ) (s : Seat) (m : Mode) 
     on_alike began t o = record { here = here_alike o.here; ready = o.ready; steps = o.steps }
 
     went_alike : (t : Seat) (n : ℕ) → Went start r token me t n → Went start u token me t n
-    went_alike t n w = record { world = w.world; fits = w.fits; found = w.found; on = on_alike false (answer_of t (found_at w.world (access_of t))) w.on }
+    went_alike t n w = record { world = w.world; fits = w.fits; found = w.found; on = on_alike false (seat_answered t (found_at w.world (access_of t))) w.on }
 
     went_there : (p : Point) (n : ℕ) → Went start r token me (seat_in r p) n → Went start u token me (seat_in u p) n
     went_there p n w = subst (λ t. Went start u token me t n) (seat_alike p) (went_alike (seat_in r p) n w)
@@ -50,10 +50,10 @@ module _ (r u : Run) (q : Origin) (z : TableId) (b : ℕ) (s : Seat) (m : Mode) 
     stopped_there p None on = subst (On start u token me false) (seat_alike p) (on_alike false (seat_in r p) on)
     stopped_there p (Some n) w = went_there p n w
 
-    stands_there : (p : Point) (o : Option ℕ) (t : Seat) → StandsAt u.seat.now u.mode u.lines.now p o t → StandsAt r.seat.now r.mode r.lines.now p o t
+    stands_there : (p : Point) (o : Option ℕ) (t : Seat) → IsWrittenAt u.seat.now u.mode u.lines.now p o t → IsWrittenAt r.seat.now r.mode r.lines.now p o t
     stands_there p o t w =
-        subst (λ v. StandsAt v r.mode r.lines.now p o t) (y.seat ∙ sym x.seat)
-        (subst (λ v. StandsAt u.seat.now v r.lines.now p o t) (y.mode ∙ sym x.mode) (subst (λ v. StandsAt u.seat.now u.mode v p o t) (y.lines ∙ sym x.lines) w))
+        subst (λ v. IsWrittenAt v r.mode r.lines.now p o t) (y.seat ∙ sym x.seat)
+        (subst (λ v. IsWrittenAt u.seat.now v r.lines.now p o t) (y.mode ∙ sym x.mode) (subst (λ v. IsWrittenAt u.seat.now u.mode v p o t) (y.lines ∙ sym x.lines) w))
 
     stopped_alike : (e : Stop) → Stopped start r token me e → Stopped start u token me e
     stopped_alike e w = record {

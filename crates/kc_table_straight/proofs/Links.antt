@@ -26,20 +26,20 @@ use Rattle.kc_machine_steps.specs.declared.pass.PassStep.TheVariants.{Install, C
 use Rattle.kc_machine_words.specs.Packing.{ControlFits, control_bits, StatusFits, OwnerFits, FirstFits, SecondFits}
 use Rattle.kc_machine_steps.specs.declared.pass.PassNext.TheVariants as pass
 use Rattle.kc_table_moves.specs.kc_machine_commits.declared.commit.OwnStep.{OwnStep}
-use Rattle.kc_machine_steps.specs.Lines.{after_line, first_of, has_put, is_installed, next_among, next_line, one_more, picked, picks, resolved_value, resolved_version, second_of, succeeds, value_after, word_of}
+use Rattle.kc_machine_steps.specs.Lines.{after_line, first_of, has_put, is_installed, next_among, next_line, one_more, picked, picks, resolved_value, resolved_version, second_of, succeeds, value_after, reference_word}
 use Rattle.kc_machine_steps.specs.Looks.{reference_of}
 use Rattle.kc_machine_steps.specs.Passes.{check_access, check_found, check_or_decide, decided_as, fits, from_check, from_install, from_release, install_access, install_found, install_next, install_or_check, refers_to, release_at, release_or_finish, status}
 use Rattle.kc_table_moves.specs.kc_machine_commits.declared.commit.OwnStep.TheVariants as own
 use Rattle.kc_machine.specs.Machine.{found_at}
-use Rattle.kc_machine.specs.Points.{first_point, seat_at}
-use Rattle.kc_machine.specs.Seats.{access_of, answer_of}
+use Rattle.kc_machine.specs.Points.{first_point, seat_at_point}
+use Rattle.kc_machine.specs.Seats.{access_of, seat_answered}
 use Rattle.kc_machine.specs.declared.seat.Seat.{Seat}
 use Rattle.kc_table_moves.specs.kc_machine_commits.Commits.{after_own_pass, fill_first, fill_second, finished, intent_of, owed_next, wake_or_drop, wake_or_signal}
 use Rattle.kc_table_moves.specs.kc_machine_traces.Bits.{AccessFits, ValuesFit}
 use Rattle.kc_table_layout.specs.Cells.{CellFits, bits, cell_of}
 use Rattle.kc_table_moves.proofs.Allowed.{ready_access}
-use Rattle.kc_table_moves.specs.Rule.{Ready}
-use Rattle.kc_table_straight.specs.Straight.{IsOnward, Makes, Paused, PausedAt, StandsAt, Stopped, StoppedAt, at_own, at_take, is_free, shows}
+use Rattle.kc_table_moves.specs.Rule.{ReadySeat}
+use Rattle.kc_table_straight.specs.Straight.{IsOnward, SeatMakes, Paused, PausedAt, IsWrittenAt, Stopped, StoppedAt, at_own, at_take, is_free, shows}
 use Rattle.kc_table_moves.specs.Atoms.{On, Went, found_of, is_plain, point_of, seat_in}
 use Rattle.kc_table_moves.specs.Views.{SeatView}
 use Rattle.kc_table_moves.specs.declared.atoms.Held.{Held}
@@ -74,32 +74,32 @@ next_none p m xs k e = among_none p m xs (MOST - k) k e
 -- ---- what a step touches its word with fits
 
 module _ (me : Me Unit View) (s : Seat) (m : Mode) (xs : List Line) (made : ℕ) (h : Held) where
-  pub owner_fits : (k n : ℕ) → k ≡ s.caller → n ≡ length xs → Ready me false (seat_at s m xs (at_own made h own.FillOwner)) → OwnerFits (record { caller = k; mode = m; lines = n; number = h.calls })
+  pub owner_fits : (k n : ℕ) → k ≡ s.caller → n ≡ length xs → ReadySeat me false (seat_at_point s m xs (at_own made h own.FillOwner)) → OwnerFits (record { caller = k; mode = m; lines = n; number = h.calls })
   owner_fits k n e f r = subst (λ k. OwnerFits (record { caller = k; mode = m; lines = n; number = h.calls })) (sym e)
-      (subst (λ n. OwnerFits (record { caller = s.caller; mode = m; lines = n; number = h.calls })) (sym f) ((ready_access me false (seat_at s m xs (at_own made h own.FillOwner)) r refl).1 tt))
+      (subst (λ n. OwnerFits (record { caller = s.caller; mode = m; lines = n; number = h.calls })) (sym f) ((ready_access me false (seat_at_point s m xs (at_own made h own.FillOwner)) r refl).1 tt))
 
-  pub start_fits : Ready me false (seat_at s m xs (at_own made h own.Start)) → StatusFits (status h.own.generation Active)
-  start_fits r = (ready_access me false (seat_at s m xs (at_own made h own.Start)) r refl).1 tt
+  pub start_fits : ReadySeat me false (seat_at_point s m xs (at_own made h own.Start)) → StatusFits (status h.own.generation Active)
+  start_fits r = (ready_access me false (seat_at_point s m xs (at_own made h own.Start)) r refl).1 tt
 
-  pub decide_fits : (p : Phase) → Ready me false (seat_at s m xs (at_own made h (own.Pass (Decide p)))) → StatusFits (status h.own.generation Active) × StatusFits (status h.own.generation p)
-  decide_fits p r = (ready_access me false (seat_at s m xs (at_own made h (own.Pass (Decide p)))) r refl).1 tt
+  pub decide_fits : (p : Phase) → ReadySeat me false (seat_at_point s m xs (at_own made h (own.Pass (Decide p)))) → StatusFits (status h.own.generation Active) × StatusFits (status h.own.generation p)
+  decide_fits p r = (ready_access me false (seat_at_point s m xs (at_own made h (own.Pass (Decide p)))) r refl).1 tt
 
   module _ (k : ℕ) (x : Line) (e : slice_get xs k ≡ Some x) (before : x.seen.value < 2 ^ 32) (after : value_after x.put x.seen.value < 2 ^ 32) where
-    pub first_fits : Ready me false (seat_at s m xs (at_own made h (own.FillFirst k))) → FirstFits (first_of x)
+    pub first_fits : ReadySeat me false (seat_at_point s m xs (at_own made h (own.FillFirst k))) → FirstFits (first_of x)
     first_fits r = subst (λ o. AccessFits (fill_first h.own.descriptor k o)) e
-        ((ready_access me false (seat_at s m xs (at_own made h (own.FillFirst k))) r refl).1 (subst (λ o. ValuesFit (fill_first h.own.descriptor k o)) (sym e) before))
+        ((ready_access me false (seat_at_point s m xs (at_own made h (own.FillFirst k))) r refl).1 (subst (λ o. ValuesFit (fill_first h.own.descriptor k o)) (sym e) before))
 
-    pub second_fits : Ready me false (seat_at s m xs (at_own made h (own.FillSecond k))) → SecondFits (second_of x)
+    pub second_fits : ReadySeat me false (seat_at_point s m xs (at_own made h (own.FillSecond k))) → SecondFits (second_of x)
     second_fits r = subst (λ o. AccessFits (fill_second h.own.descriptor k o)) e
-        ((ready_access me false (seat_at s m xs (at_own made h (own.FillSecond k))) r refl).1 (subst (λ o. ValuesFit (fill_second h.own.descriptor k o)) (sym e) after))
+        ((ready_access me false (seat_at_point s m xs (at_own made h (own.FillSecond k))) r refl).1 (subst (λ o. ValuesFit (fill_second h.own.descriptor k o)) (sym e) after))
 
-    pub install_fits : Ready me false (seat_at s m xs (at_own made h (own.Pass (Install k)))) → IsPackable (Plain x.seen.version x.seen.value) × IsPackable (word_of h.own k)
+    pub install_fits : ReadySeat me false (seat_at_point s m xs (at_own made h (own.Pass (Install k)))) → IsPackable (Plain x.seen.version x.seen.value) × IsPackable (reference_word h.own k)
     install_fits r = subst (λ o. AccessFits (install_access h.own k o)) e
-        ((ready_access me false (seat_at s m xs (at_own made h (own.Pass (Install k)))) r refl).1 (subst (λ o. ValuesFit (install_access h.own k o)) (sym e) (before, tt)))
+        ((ready_access me false (seat_at_point s m xs (at_own made h (own.Pass (Install k)))) r refl).1 (subst (λ o. ValuesFit (install_access h.own k o)) (sym e) (before, tt)))
 
-    pub release_fits : (p : Phase) → Ready me false (seat_at s m xs (at_own made h (own.Pass (Release k p)))) → IsPackable (word_of h.own k) × IsPackable (Plain (resolved_version (first_of x) p) (resolved_value (first_of x) (second_of x).after p))
+    pub release_fits : (p : Phase) → ReadySeat me false (seat_at_point s m xs (at_own made h (own.Pass (Release k p)))) → IsPackable (reference_word h.own k) × IsPackable (Plain (resolved_version (first_of x) p) (resolved_value (first_of x) (second_of x).after p))
     release_fits p r = subst (λ o. AccessFits (release_at h.own k p o)) e
-        ((ready_access me false (seat_at s m xs (at_own made h (own.Pass (Release k p)))) r refl).1 (subst (λ o. ValuesFit (release_at h.own k p o)) (sym e) (tt, small (succeeds p) x.put x.seen.value after before)))
+        ((ready_access me false (seat_at_point s m xs (at_own made h (own.Pass (Release k p)))) r refl).1 (subst (λ o. ValuesFit (release_at h.own k p o)) (sym e) (tt, small (succeeds p) x.put x.seen.value after before)))
       where
         small : (t : Bool) (o : Option ℕ) (b : ℕ) → value_after o b < 2 ^ 32 → b < 2 ^ 32 → (if t then (if has_put o then value_after o b else b) else b) < 2 ^ 32
         small true None b a l = l
@@ -109,19 +109,19 @@ module _ (me : Me Unit View) (s : Seat) (m : Mode) (xs : List Line) (made : ℕ)
 -- ---- what a step makes of a number
 
 -- where the seat's answer is known
-pub went_on : (start : SeatView) (r : Run) (token : TableId) (later : Me Unit View) (s t : Seat) (n : ℕ) → (w : Went start r token later s n) → Makes s n t → On start r token later false t
+pub went_on : (start : SeatView) (r : Run) (token : TableId) (later : Me Unit View) (s t : Seat) (n : ℕ) → (w : Went start r token later s n) → SeatMakes s n t → On start r token later false t
 went_on start r token later s t n w makes = subst (On start r token later false) (sym (makes w.world w.fits w.found)) w.on
 
 pub scan_makes : (s : Seat) (m : Mode) (xs : List Line) (c : Control) (n : ℕ) → ((x : Control) → ControlFits x → control_bits x ≡ n → c ≡ x) → c.holds ≡ 0 → c.generation < 1099511627775
-    → Makes (seat_at s m xs (first_point s)) n (seat_at s m xs (at_take s c.generation))
+    → SeatMakes (seat_at_point s m xs (first_point s)) n (seat_at_point s m xs (at_take s c.generation))
 scan_makes s m xs c n back holds small w fits f =
     let t : nat_lt c.generation 1099511627775 ≡ true = grind (arith, nat_tests) in
     let h : (c.holds == 0) ≡ true = grind (arith, nat_tests) in
-    let r : answer_of (seat_at s m xs (first_point s)) (found.Control c) ≡ seat_at s m xs (at_take s c.generation) = rw (t, h) refl in
-    sym r ∙ ap (λ x. answer_of (seat_at s m xs (first_point s)) (found.Control x)) (back (w.control s.first) fits f)
+    let r : seat_answered (seat_at_point s m xs (first_point s)) (found.Control c) ≡ seat_at_point s m xs (at_take s c.generation) = rw (t, h) refl in
+    sym r ∙ ap (λ x. seat_answered (seat_at_point s m xs (first_point s)) (found.Control x)) (back (w.control s.first) fits f)
 
 pub install_makes : (s : Seat) (m : Mode) (xs : List Line) (made k n : ℕ) (h : Held) (x : Line) → ((v w : Word) → IsPackable v → IsPackable w → packed v ≡ packed w → v ≡ w) → slice_get xs k ≡ Some x → IsPackable (Plain x.seen.version x.seen.value) → n ≡ packed (Plain x.seen.version x.seen.value)
-    → Makes (seat_at s m xs (at_own made h (own.Pass (Install k)))) n (seat_at s m xs (at_own (one_more made) h (own.Pass (from_install m xs (after_line k)))))
+    → SeatMakes (seat_at_point s m xs (at_own made h (own.Pass (Install k)))) n (seat_at_point s m xs (at_own (one_more made) h (own.Pass (from_install m xs (after_line k)))))
 install_makes s m xs made k n h x same e small is w fits f =
     let p = at_own made h (own.Pass (Install k)) in
     let plain = Plain x.seen.version x.seen.value in
@@ -132,7 +132,7 @@ install_makes s m xs made k n h x same e small is w fits f =
     let v : (x.seen.version == x.seen.version) ≡ true = grind (arith, nat_tests) in
     let y : (x.seen.value == x.seen.value) ≡ true = grind (arith, nat_tests) in
     let r : install_next h.own m xs k (found.Word plain) ≡ pass.Goes (from_install m xs (after_line k)) = ap (λ o. install_found h.own m xs k (found.Word plain) o) e ∙ rw (v, y) refl in
-    sym (ap (λ z. seat_at s m xs (at_own (one_more made) h (after_own_pass (intent_of m xs) z))) r) ∙ ap (answer_of (seat_at s m xs p)) (sym there)
+    sym (ap (λ z. seat_at_point s m xs (at_own (one_more made) h (after_own_pass (intent_of m xs) z))) r) ∙ ap (seat_answered (seat_at_point s m xs p)) (sym there)
 
 -- ---- what is not as expected
 
@@ -151,7 +151,7 @@ unlike_shows x n old ne is (Plain v y) p e = unlike_fits v y x (λ q. ne (sym e 
 unlike_shows x n old ne is (Ref g d k) p e = refl
 
 -- bits that are not of the own reference
-pub foreign_refers : (h : Handle) (k n new : ℕ) → n ≢ new → new ≡ packed (word_of h k) → (g d j : ℕ) → IsPackable (Ref g d j) → packed (Ref g d j) ≡ n → refers_to h k (reference_of g d j) ≡ false
+pub foreign_refers : (h : Handle) (k n new : ℕ) → n ≢ new → new ≡ packed (reference_word h k) → (g d j : ℕ) → IsPackable (Ref g d j) → packed (Ref g d j) ≡ n → refers_to h k (reference_of g d j) ≡ false
 foreign_refers h k n new ne is g d j p e = go (d == h.descriptor) (g == h.generation) (j == k) refl refl refl
   where
     go : (a b c : Bool) → (d == h.descriptor) ≡ a → (g == h.generation) ≡ b → (j == k) ≡ c → (a && (b && c)) ≡ false
@@ -169,30 +169,30 @@ free_is c f = go (c.holds == 0) (nat_lt c.generation 1099511627775) refl refl f
     go true false p q f = absurd (cc)
     go false b p q f = absurd (cc)
 
-pub scan_rests : (s : Seat) (m : Mode) (xs : List Line) (c : Control) → is_free c ≡ false → IsOnward (answer_of (seat_at s m xs (first_point s)) (found.Control c))
+pub scan_rests : (s : Seat) (m : Mode) (xs : List Line) (c : Control) → is_free c ≡ false → IsOnward (seat_answered (seat_at_point s m xs (first_point s)) (found.Control c))
 scan_rests s m xs c f = go (c.holds == 0) (nat_lt c.generation 1099511627775) (nat_lt 0 (s.descriptors - 1)) refl refl refl f
   where
-    go : (a b d : Bool) → (c.holds == 0) ≡ a → nat_lt c.generation 1099511627775 ≡ b → nat_lt 0 (s.descriptors - 1) ≡ d → (a && b) ≡ false → IsOnward (answer_of (seat_at s m xs (first_point s)) (found.Control c))
+    go : (a b d : Bool) → (c.holds == 0) ≡ a → nat_lt c.generation 1099511627775 ≡ b → nat_lt 0 (s.descriptors - 1) ≡ d → (a && b) ≡ false → IsOnward (seat_answered (seat_at_point s m xs (first_point s)) (found.Control c))
     go true true d p q r f = absurd (cc)
     go false true d p q r f = rw (p, q) (inr refl)
     go a false true p q r f = rw (q, r) (inr refl)
     go a false false p q r f = rw (q, r) (inl refl)
 
-pub take_rests : (s : Seat) (m : Mode) (xs : List Line) (g : ℕ) (c : Control) → (c.generation ≡ g → c.holds ≡ 0 → ⊥) → IsOnward (answer_of (seat_at s m xs (at_take s g)) (found.Control c))
+pub take_rests : (s : Seat) (m : Mode) (xs : List Line) (g : ℕ) (c : Control) → (c.generation ≡ g → c.holds ≡ 0 → ⊥) → IsOnward (seat_answered (seat_at_point s m xs (at_take s g)) (found.Control c))
 take_rests s m xs g c other = go (c.generation == g) (c.holds == 0) refl refl
   where
-    go : (a b : Bool) → (c.generation == g) ≡ a → (c.holds == 0) ≡ b → IsOnward (answer_of (seat_at s m xs (at_take s g)) (found.Control c))
+    go : (a b : Bool) → (c.generation == g) ≡ a → (c.holds == 0) ≡ b → IsOnward (seat_answered (seat_at_point s m xs (at_take s g)) (found.Control c))
     go true true p q = absurd (other (eqb-true c.generation g p) (eqb-true c.holds 0 q))
     go true false p q = rw (p, q) (inr refl)
     go false b p q = rw p (inr refl)
 
 -- a run that has made a step which leaves it aside
-pub stops_behind : (start : SeatView) (r : Run) (token : TableId) (me : Me Unit View) (e : Stop) (n : ℕ) → found_of e.at e.number ≡ Some n → (w : Went start r token me (seat_in r (point_of e)) n) → IsOnward (answer_of (seat_in r (point_of e)) (found_at w.world (access_of (seat_in r (point_of e)))))
+pub stops_behind : (start : SeatView) (r : Run) (token : TableId) (me : Me Unit View) (e : Stop) (n : ℕ) → found_of e.at e.number ≡ Some n → (w : Went start r token me (seat_in r (point_of e)) n) → IsOnward (seat_answered (seat_in r (point_of e)) (found_at w.world (access_of (seat_in r (point_of e)))))
     → Stopped start r token me e
 stops_behind start r token me e n is w rests = record {
   at = subst (StoppedAt start r token me (point_of e)) (sym is) w;
   onward = λ t stands.
-      let makes = subst (λ o. StandsAt r.seat.now r.mode r.lines.now (point_of e) o t) is stands in
+      let makes = subst (λ o. IsWrittenAt r.seat.now r.mode r.lines.now (point_of e) o t) is stands in
       subst IsOnward (sym (makes w.world w.fits w.found)) rests;
 }
 
@@ -235,21 +235,21 @@ module _ (start : SeatView) (r : Run) (token : TableId) (me : Me Unit View) (h :
     install_found_it = subst (λ o. bits w.world (cell_of (install_access h.own k o)) ≡ n) e w.found
 
     install_answer : (u : Word) → install_stood ≡ u
-        → answer_of (at_step (own.Pass (Install k))) (found_at w.world (install_access h.own k (slice_get xs k))) ≡ behind (after_own_pass (intent_of m xs) (install_found h.own m xs k (found.Word u) (Some x)))
+        → seat_answered (at_step (own.Pass (Install k))) (found_at w.world (install_access h.own k (slice_get xs k))) ≡ behind (after_own_pass (intent_of m xs) (install_found h.own m xs k (found.Word u) (Some x)))
     install_answer u is =
-        ap (λ o. answer_of (at_step (own.Pass (Install k))) (found_at w.world (install_access h.own k o))) e
-        ∙ ap (λ v. answer_of (at_step (own.Pass (Install k))) (found.Word v)) is
+        ap (λ o. seat_answered (at_step (own.Pass (Install k))) (found_at w.world (install_access h.own k o))) e
+        ∙ ap (λ v. seat_answered (at_step (own.Pass (Install k))) (found.Word v)) is
         ∙ ap (λ o. behind (after_own_pass (intent_of m xs) (install_found h.own m xs k (found.Word u) o))) e
 
     -- a helper has made it
-    pub install_made : ((v u : Word) → IsPackable v → IsPackable u → packed v ≡ packed u → v ≡ u) → IsPackable (word_of h.own k) → n ≡ packed (word_of h.own k) → On start r token me false (behind (own.Pass (from_install m xs (after_line k))))
+    pub install_made : ((v u : Word) → IsPackable v → IsPackable u → packed v ≡ packed u → v ≡ u) → IsPackable (reference_word h.own k) → n ≡ packed (reference_word h.own k) → On start r token me false (behind (own.Pass (from_install m xs (after_line k))))
     install_made same small is =
-        let stood : install_stood ≡ word_of h.own k = same install_stood (word_of h.own k) install_packable small (install_found_it ∙ is) in
+        let stood : install_stood ≡ reference_word h.own k = same install_stood (reference_word h.own k) install_packable small (install_found_it ∙ is) in
         let d : (h.own.descriptor == h.own.descriptor) ≡ true = grind (arith, nat_tests) in
         let g : (h.own.generation == h.own.generation) ≡ true = grind (arith, nat_tests) in
         let j : (k == k) ≡ true = grind (arith, nat_tests) in
-        let goes : install_found h.own m xs k (found.Word (word_of h.own k)) (Some x) ≡ pass.Goes (from_install m xs (after_line k)) = rw (d, g, j) refl in
-        subst (On start r token me false) (install_answer (word_of h.own k) stood ∙ ap (λ z. behind (after_own_pass (intent_of m xs) z)) goes) w.on
+        let goes : install_found h.own m xs k (found.Word (reference_word h.own k)) (Some x) ≡ pass.Goes (from_install m xs (after_line k)) = rw (d, g, j) refl in
+        subst (On start r token me false) (install_answer (reference_word h.own k) stood ∙ ap (λ z. behind (after_own_pass (intent_of m xs) z)) goes) w.on
 
     install_fails : is_plain install_stood ≡ true → shows x install_stood ≡ false → On start r token me false (behind (own.Pass (Decide (Failed k))))
     install_fails = go install_stood refl
@@ -262,11 +262,11 @@ module _ (start : SeatView) (r : Run) (token : TableId) (me : Me Unit View) (h :
         go (Ref g d j) is p q = absurd (cc)
 
     install_rests : is_plain install_stood ≡ false → ((g d j : ℕ) → IsPackable (Ref g d j) → packed (Ref g d j) ≡ n → refers_to h.own k (reference_of g d j) ≡ false)
-        → IsOnward (answer_of (at_step (own.Pass (Install k))) (found_at w.world (install_access h.own k (slice_get xs k))))
+        → IsOnward (seat_answered (at_step (own.Pass (Install k))) (found_at w.world (install_access h.own k (slice_get xs k))))
     install_rests = go install_stood refl
       where
         go : (u : Word) → install_stood ≡ u → is_plain u ≡ false → ((g d j : ℕ) → IsPackable (Ref g d j) → packed (Ref g d j) ≡ n → refers_to h.own k (reference_of g d j) ≡ false)
-            → IsOnward (answer_of (at_step (own.Pass (Install k))) (found_at w.world (install_access h.own k (slice_get xs k))))
+            → IsOnward (seat_answered (at_step (own.Pass (Install k))) (found_at w.world (install_access h.own k (slice_get xs k))))
         go (Plain v y) is p q = absurd (cc)
         go (Ref g d j) is p q =
             let other = q g d j (subst IsPackable is install_packable) (ap packed (sym is) ∙ install_found_it) in
@@ -294,10 +294,10 @@ module _ (start : SeatView) (r : Run) (token : TableId) (me : Me Unit View) (h :
     pub check_found_it : packed check_stood ≡ n
     check_found_it = subst (λ o. bits w.world (cell_of (check_access o)) ≡ n) e w.found
 
-    check_answer : (u : Word) → check_stood ≡ u → answer_of (at_step (own.Pass (Check k))) (found_at w.world (check_access (slice_get xs k))) ≡ behind (own.Pass (check_found m xs k (found.Word u) (Some x)))
+    check_answer : (u : Word) → check_stood ≡ u → seat_answered (at_step (own.Pass (Check k))) (found_at w.world (check_access (slice_get xs k))) ≡ behind (own.Pass (check_found m xs k (found.Word u) (Some x)))
     check_answer u is =
-        ap (λ o. answer_of (at_step (own.Pass (Check k))) (found_at w.world (check_access o))) e
-        ∙ ap (λ v. answer_of (at_step (own.Pass (Check k))) (found.Word v)) is
+        ap (λ o. seat_answered (at_step (own.Pass (Check k))) (found_at w.world (check_access o))) e
+        ∙ ap (λ v. seat_answered (at_step (own.Pass (Check k))) (found.Word v)) is
         ∙ ap (λ o. behind (own.Pass (check_found m xs k (found.Word u) o))) e
 
     pub check_agrees : shows x check_stood ≡ true → On start r token me false (behind (own.Pass (from_check m xs (after_line k))))
@@ -314,10 +314,10 @@ module _ (start : SeatView) (r : Run) (token : TableId) (me : Me Unit View) (h :
         go (Plain v y) is p q = subst (On start r token me false) (check_answer (Plain v y) is ∙ ap (λ b. behind (own.Pass (if b then from_check m xs (after_line k) else Decide (Failed k)))) q) w.on
         go (Ref g d j) is p q = absurd (cc)
 
-    check_rests : is_plain check_stood ≡ false → IsOnward (answer_of (at_step (own.Pass (Check k))) (found_at w.world (check_access (slice_get xs k))))
+    check_rests : is_plain check_stood ≡ false → IsOnward (seat_answered (at_step (own.Pass (Check k))) (found_at w.world (check_access (slice_get xs k))))
     check_rests = go check_stood refl
       where
-        go : (u : Word) → check_stood ≡ u → is_plain u ≡ false → IsOnward (answer_of (at_step (own.Pass (Check k))) (found_at w.world (check_access (slice_get xs k))))
+        go : (u : Word) → check_stood ≡ u → is_plain u ≡ false → IsOnward (seat_answered (at_step (own.Pass (Check k))) (found_at w.world (check_access (slice_get xs k))))
         go (Plain v y) is p = absurd (cc)
         go (Ref g d j) is p = subst IsOnward (sym (check_answer (Ref g d j) is)) (inr refl)
 
@@ -411,8 +411,8 @@ drops_at_once i (Crossed k) e = refl
 drops_at_once i Halted e = refl
 
 -- the own reference is no plain word
-pub apart_words : ((v w : Word) → IsPackable v → IsPackable w → packed v ≡ packed w → v ≡ w) → (h : Handle) (k v y : ℕ) → IsPackable (word_of h k) → IsPackable (Plain v y) → packed (Plain v y) ≢ packed (word_of h k)
-apart_words same h k v y p q e = let z = ap is_plain (same (Plain v y) (word_of h k) q p e) in absurd (cc)
+pub apart_words : ((v w : Word) → IsPackable v → IsPackable w → packed v ≡ packed w → v ≡ w) → (h : Handle) (k v y : ℕ) → IsPackable (reference_word h k) → IsPackable (Plain v y) → packed (Plain v y) ≢ packed (reference_word h k)
+apart_words same h k v y p q e = let z = ap is_plain (same (Plain v y) (reference_word h k) q p e) in absurd (cc)
 
 pub owed_some : (owed : ℕ) → owed ≢ 0 → owed_next owed ≡ own.Signal owed
 owed_some owed n = let e : (owed == 0) ≡ false = grind (arith, nat_tests) in ap (λ b. if b then own.Drop Succeeded else own.Signal owed) e

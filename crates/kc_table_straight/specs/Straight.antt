@@ -12,9 +12,9 @@ use Rattle.kc_machine_words.specs.declared.words.TheConstants.{LAST_GENERATION}
 use Rattle.kc_machine_words.specs.declared.words.Mode.{Mode}
 use Rattle.kc_machine_words.specs.declared.words.Phase.TheVariants.{Succeeded}
 use Rattle.kc_machine.specs.Machine.{World, found_at}
-use Rattle.kc_machine.specs.Points.{point, seat_at, seat_told}
+use Rattle.kc_machine.specs.Points.{point, seat_at_point, seat_told}
 use Rattle.kc_table_moves.specs.kc_machine_commits.Commits.{told_of}
-use Rattle.kc_machine.specs.Seats.{access_of, answer_of, is_idle}
+use Rattle.kc_machine.specs.Seats.{access_of, seat_answered, is_idle}
 use Rattle.kc_machine.specs.Works.{Work}
 use Rattle.kc_machine.specs.Works as work
 use Rattle.kc_machine.specs.declared.point.Point.{Point}
@@ -57,8 +57,8 @@ abbrev pub is_free : Control → Bool
 is_free c = (c.holds == 0) && nat_lt c.generation LAST_GENERATION
 
 -- what the seat makes of n, wherever it finds it
-abbrev pub Makes : Seat → ℕ → Seat → Type 0
-Makes s n t = (w : World) → CellFits w (cell_of (access_of s)) → bits w (cell_of (access_of s)) ≡ n → t ≡ answer_of s (found_at w (access_of s))
+abbrev pub SeatMakes : Seat → ℕ → Seat → Type 0
+SeatMakes s n t = (w : World) → CellFits w (cell_of (access_of s)) → bits w (cell_of (access_of s)) ≡ n → t ≡ seat_answered s (found_at w (access_of s))
 
 -- the run has come to a point, or has made the step there, which found this number
 abbrev pub StoppedAt : SeatView → Run → TableId → Me Unit View → Point → Option ℕ → Type 0
@@ -66,9 +66,9 @@ StoppedAt start r token me p None = On start r token me false (seat_in r p)
 StoppedAt start r token me p (Some n) = Went start r token me (seat_in r p) n
 
 -- the seat s is written at a point, or behind the step there, which found this number
-abbrev pub StandsAt : Seat → Mode → List Line → Point → Option ℕ → Seat → Type 0
-StandsAt s m xs p None t = t ≡ seat_at s m xs p
-StandsAt s m xs p (Some n) t = Makes (seat_at s m xs p) n t
+abbrev pub IsWrittenAt : Seat → Mode → List Line → Point → Option ℕ → Seat → Type 0
+IsWrittenAt s m xs p None t = t ≡ seat_at_point s m xs p
+IsWrittenAt s m xs p (Some n) t = SeatMakes (seat_at_point s m xs p) n t
 
 -- no stage from which a commit runs straight on: it scans on, aids another's commit, or signals
 abbrev pub is_aside_step : OwnStep → Bool
@@ -96,7 +96,7 @@ IsOnward s = (is_idle s.work ≡ true) ⊎ IsAside s
 -- the run has stopped there; wherever the seat is written so, it could not run straight on
 pub record Stopped (start : SeatView) (r : Run) (token : TableId) (me : Me Unit View) (e : Stop) : Type 0 where
   pub at : StoppedAt start r token me (point_of e) (found_of e.at e.number)
-  pub onward : (t : Seat) → StandsAt r.seat.now r.mode r.lines.now (point_of e) (found_of e.at e.number) t → IsOnward t
+  pub onward : (t : Seat) → IsWrittenAt r.seat.now r.mode r.lines.now (point_of e) (found_of e.at e.number) t → IsOnward t
 
 -- ---- a line's word that is not as expected
 

@@ -16,10 +16,10 @@ use Rattle.kc_machine.specs.Schedules.{IsWellMadeTask}
 use Rattle.kc_machine.specs.Seats.{begun, is_idle}
 use Rattle.kc_table_laws.proofs.Following.{does_first, does_further}
 use Rattle.kc_table_laws.proofs.Keeping.{steps_keep, loads_keep, looks_saw}
-use Rattle.kc_table_laws.specs.Tasks.{Does, Keeps, KnowsRead}
+use Rattle.kc_table_laws.specs.Tasks.{DoesTask, KeepsKnown, KnowsRead}
 use Rattle.kc_table_moves.specs.Views.{TableView, SeatView, Learns, Starts, Stepped, KnowsReads, AreAll, count_from}
 
-one_kept : (v w : SeatView) (r : Seen) → Keeps v w → KnowsRead v r → KnowsRead w r
+one_kept : (v w : SeatView) (r : Seen) → KeepsKnown v w → KnowsRead v r → KnowsRead w r
 one_kept v w r k x = (subst (λ z. r.loc.0 < z.origin.locations) (sym k.of) x.0, k.reads r x.1)
 
 pub reads_step : (v w : SeatView) (reads : List Seen) → Stepped v w → All (KnowsRead v) reads → All (KnowsRead w) reads
@@ -40,13 +40,13 @@ two_known v first second a b = All-push (KnowsRead v) (first ∷ []) second a b
 pub look_starts : (v : SeatView) (l : Loc) → is_idle v.seat.work ≡ true → Starts v (task.Look l)
 look_starts v l i = (i, rw i refl)
 
-pub first_looks : (v u w : SeatView) (l : Loc) → is_idle v.seat.work ≡ true → l.0 < v.of.origin.locations → u ≡ record v { seat = begun v.seat (task.Look l); began = true } → Stepped u w → Does v (task.Look l) w
+pub first_looks : (v u w : SeatView) (l : Loc) → is_idle v.seat.work ≡ true → l.0 < v.of.origin.locations → u ≡ record v { seat = begun v.seat (task.Look l); began = true } → Stepped u w → DoesTask v (task.Look l) w
 first_looks v u w l i b e s = does_first v u w (task.Look l) (look_starts v l i) b e s
 
-pub next_looks : (v u w : SeatView) (l : Loc) → Does v (task.Look l) u → u.began ≡ false → Stepped u w → Does v (task.Look l) w
+pub next_looks : (v u w : SeatView) (l : Loc) → DoesTask v (task.Look l) u → u.began ≡ false → Stepped u w → DoesTask v (task.Look l) w
 next_looks v u w l d e s = does_further v u w u.seat (task.Look l) d e s
 
-pub saw_known : (v w : SeatView) (l : Loc) (r : Seen) → Does v (task.Look l) w → l.0 < v.of.origin.locations → w.seat.told ≡ Some (told.Seen r) → KnowsRead w r
+pub saw_known : (v w : SeatView) (l : Loc) (r : Seen) → DoesTask v (task.Look l) w → l.0 < v.of.origin.locations → w.seat.told ≡ Some (told.Seen r) → KnowsRead w r
 saw_known v w l r d b said =
     let x = looks_saw v w l r d said in
     (subst (λ z. r.loc.0 < z.origin.locations) (sym d.of) (subst (λ (y : Loc). y.0 < v.of.origin.locations) (sym x.of) b), x.known)

@@ -17,11 +17,11 @@ use Rattle.kc_machine_answers.specs.kc_machine.declared.seat.Seat.{Seat}
 use Rattle.kc_machine_answers.specs.kc_machine.declared.hang.HangStep.TheVariants as hang
 use Rattle.kc_machine_answers.specs.kc_machine.Machine.{Opening, run, pool_size}
 use Rattle.kc_machine_answers.specs.kc_machine_traces.Claims.{OwesRelease, stands_for}
-use Rattle.kc_machine_answers.specs.kc_machine_traces.Histories.{Grows, IsKnown, IsLegalHistory, ending}
+use Rattle.kc_machine_answers.specs.kc_machine_traces.Histories.{Grows, IsKnown, IsLegalHistory, ending_store}
 use Rattle.kc_machine_answers.specs.kc_machine_traces.Traces.{trace, first_store, BeginsHonestly}
 use Rattle.kc_machine_answers.specs.kc_machine_invariants.Holds.{own_hold}
 use Rattle.kc_machine_answers.specs.kc_machine_invariants.Holds.Hold.{Proper}
-use Rattle.kc_machine_answers.specs.kc_machine_invariants.Stands.{stand, works, resting, commits, hangs}
+use Rattle.kc_machine_answers.specs.kc_machine_invariants.Stands.{stand, works, resting, stand_commits, stand_hangs}
 use Rattle.kc_machine_answers.proofs.kc_machine_history.Differ.{entries_differ}
 use Rattle.kc_machine_history.proofs.Legal.{legal}
 use Rattle.kc_machine_answers.proofs.kc_machine_traces.Always.{references_held}
@@ -30,7 +30,7 @@ use Rattle.kc_machine_answers.proofs.kc_machine_history.Resolving.{words_resolve
 use Rattle.kc_machine_answers.proofs.kc_machine_traces.Entries.{history_grows, by_inserted, entries_of_callers, swapper}
 use Rattle.kc_machine_answers.proofs.kc_machine_traces.Known.{known_stays, versions_rise}
 use Rattle.kc_machine_answers.proofs.kc_machine_traces.Others.{others_leave, run_shape}
-use Rattle.kc_machine_answers.specs.kc_machine_traces.Entries.{by}
+use Rattle.kc_machine_answers.specs.kc_machine_traces.Entries.{placed_by}
 use Rattle.kc_machine_answers.specs.kc_machine_traces.Parts.{NoneOf}
 use Rattle.kc_machine_answers.specs.kc_machine_words.declared.words.Handle.{Handle}
 use Rattle.kc_model.specs.declared.word.Word.{Word}
@@ -44,7 +44,7 @@ grows_on o past more m = subst (λ l. Grows (trace o l).history (known o (past +
 pub known_on : (o : Opening) (past more : List Event) → IsMeant o (past ++ more) → (r : Seen) → IsKnown (first_store o) (known o past) r → IsKnown (first_store o) (known o (past ++ more)) r
 known_on o past more m r = known_stays (first_store o) (known o past) (known o (past ++ more)) r (grows_on o past more m)
 
-pub versions_on : (o : Opening) (past more : List Event) → IsMeant o (past ++ more) → (l : ℕ) → (ending (first_store o) (known o past) l).version ≤ (ending (first_store o) (known o (past ++ more)) l).version
+pub versions_on : (o : Opening) (past more : List Event) → IsMeant o (past ++ more) → (l : ℕ) → (ending_store (first_store o) (known o past) l).version ≤ (ending_store (first_store o) (known o (past ++ more)) l).version
 versions_on o past more m l = versions_rise (first_store o) (known o past) (known o (past ++ more)) l (grows_on o past more m)
 
 -- what began honestly may begin later
@@ -104,12 +104,12 @@ owned_none s es i = go (is_some (own_of s)) refl
 no_hold : (s : Seat) (d g : ℕ) → is_some (own_of s) ≡ false → own_hold (stand s).own ≡ Proper d g → ⊥
 no_hold s d g = go s.work
   where
-    stages : (c : Commit) (st : Stage) → is_some (own_of_stage st) ≡ false → own_hold (commits (record (resting s) { halted = c.halted }) c.intent c.copy st).own ≡ Proper d g → ⊥
+    stages : (c : Commit) (st : Stage) → is_some (own_of_stage st) ≡ false → own_hold (stand_commits (record (resting s) { halted = c.halted }) c.intent c.copy st).own ≡ Proper d g → ⊥
     stages c (Scan e worn) o q = absurd (cc)
     stages c (Take e h) o q = absurd (cc)
     stages c (Own h step) o q = absurd (cc)
 
-    hang_steps : (reads : List Seen) (st : HangStep) → own_hold (hangs (resting s) reads st).own ≡ Proper d g → ⊥
+    hang_steps : (reads : List Seen) (st : HangStep) → own_hold (stand_hangs (resting s) reads st).own ≡ Proper d g → ⊥
     hang_steps reads (hang.Set k) q = absurd (cc)
     hang_steps reads (hang.Look k step) q = absurd (cc)
     hang_steps reads (hang.Clear k n) q = absurd (cc)
@@ -123,20 +123,20 @@ no_hold s d g = go s.work
     go (work.Swap l) o q = absurd (cc)
 
 -- a seat that owns none gains no entry by what others do
-pub gains_none : (o : Opening) (es more : List Event) (k : ℕ) → is_some (own_of ((run o es).seats k)) ≡ false → NoneOf k more → by k (known o (es ++ more)) ≡ by k (known o es)
-gains_none o es [] k i n = ap (λ x. by k (known o x)) (append-nil es)
+pub gains_none : (o : Opening) (es more : List Event) (k : ℕ) → is_some (own_of ((run o es).seats k)) ≡ false → NoneOf k more → placed_by k (known o (es ++ more)) ≡ placed_by k (known o es)
+gains_none o es [] k i n = ap (λ x. placed_by k (known o x)) (append-nil es)
 gains_none o es (e ∷ more) k i n =
     let at = others_leave o es (e ∷ []) k (n.0, tt) in
     let r = gains_none o (es ++ e ∷ []) more k (ap (λ (s : Seat). is_some (own_of s)) at ∙ i) n.1 in
-    let one = history_grows o es (λ h. by k h ≡ by k (known o es)) e refl
+    let one = history_grows o es (λ h. placed_by k h ≡ placed_by k (known o es)) e refl
     (λ x n. by_inserted k x _ (λ q. no_hold ((run o es).seats k) n.descriptor n.generation i (subst (λ c. own_hold (stand ((run o es).seats c)).own ≡ Proper n.descriptor n.generation) q n.owns)))
     (λ x d. by_inserted k x _ (λ q. n.0 (sym (swapper o es e x d) ∙ q))) in
-    ap (λ x. by k (known o x)) (sym (append_assoc es (e ∷ []) more)) ∙ r ∙ one
+    ap (λ x. placed_by k (known o x)) (sym (append_assoc es (e ∷ []) more)) ∙ r ∙ one
 
 pub knows_a_part : (o : Opening) (es past : List Event) (k : ℕ) → IsMeant o es → OwnsNone o k past → GoesOn k past es → KnowsAPart k (known o es) (known o past)
 knows_a_part o es past k m none g = record {
   grows = subst (λ xs. Grows (known o past) (known o xs)) (sym g.1) (grows_on o past g.0 (subst (IsMeant o) g.1 m));
-  own = ap (λ xs. by k (known o xs)) g.1 ∙ gains_none o past g.0 k none g.2;
+  own = ap (λ xs. placed_by k (known o xs)) g.1 ∙ gains_none o past g.0 k none g.2;
 }
 
 pub idle_owns_none : (o : Opening) (k : ℕ) (past pending : List Event) (began : Bool) (s : Seat) → Pends o k past began pending s → is_idle s.work ≡ true → OwnsNone o k past
@@ -148,12 +148,12 @@ idle_owns_none o k past pending began s p i = owned_none ((run o past).seats k) 
 owes_none : (s : Seat) (h : Handle) (j : ℕ) → is_some (own_of s) ≡ false → OwesRelease h j (stand s) → ⊥
 owes_none s h j = go s.work
   where
-    stages : (c : Commit) (st : Stage) → is_some (own_of_stage st) ≡ false → OwesRelease h j (commits (record (resting s) { halted = c.halted }) c.intent c.copy st) → ⊥
+    stages : (c : Commit) (st : Stage) → is_some (own_of_stage st) ≡ false → OwesRelease h j (stand_commits (record (resting s) { halted = c.halted }) c.intent c.copy st) → ⊥
     stages c (Scan e worn) o q = ⊎_elim (λ x. x) (⊎_elim (λ x. x) (λ x. x)) q
     stages c (Take e g) o q = ⊎_elim (λ x. x) (⊎_elim (λ x. x) (λ x. x)) q
     stages c (Own e step) o q = absurd (cc)
 
-    hang_steps : (reads : List Seen) (st : HangStep) → OwesRelease h j (hangs (resting s) reads st) → ⊥
+    hang_steps : (reads : List Seen) (st : HangStep) → OwesRelease h j (stand_hangs (resting s) reads st) → ⊥
     hang_steps reads (hang.Set k) q = ⊎_elim (λ x. x) (⊎_elim (λ x. x) (λ x. x)) q
     hang_steps reads (hang.Look k step) q = ⊎_elim (λ x. x) (⊎_elim (λ x. x) (λ x. x)) q
     hang_steps reads (hang.Clear k n) q = ⊎_elim (λ x. x) (⊎_elim (λ x. x) (λ x. x)) q
@@ -167,18 +167,18 @@ owes_none s h j = go s.work
     go (work.Swap l) o q = ⊎_elim (λ x. x) (⊎_elim (λ x. x) (λ x. x)) q
 
 pub plain_words : (o : Opening) (es : List Event) → IsMeant o es → ((k : ℕ) → k < o.callers → OwnsNone o k es) → (l : ℕ) → l < o.locations
-    → (run o es).world.word l ≡ Plain (ending (first_store o) (known o es) l).version (ending (first_store o) (known o es) l).value
+    → (run o es).world.word l ≡ Plain (ending_store (first_store o) (known o es) l).version (ending_store (first_store o) (known o es) l).value
 plain_words o es m none l b = go ((run o es).world.word l) refl
   where
     shape : ((run o es).locations ≡ o.locations) × ((run o es).descriptors ≡ pool_size o.callers) × ((run o es).callers ≡ o.callers)
     shape = run_shape o es
 
-    stands : stands_for (run o es).world ((run o es).world.word l) ≡ ending (first_store o) (known o es) l
+    stands : stands_for (run o es).world ((run o es).world.word l) ≡ ending_store (first_store o) (known o es) l
     stands = words_resolve o es m.0 l b
 
-    go : (w : Word) → (run o es).world.word l ≡ w → w ≡ Plain (ending (first_store o) (known o es) l).version (ending (first_store o) (known o es) l).value
+    go : (w : Word) → (run o es).world.word l ≡ w → w ≡ Plain (ending_store (first_store o) (known o es) l).version (ending_store (first_store o) (known o es) l).value
     go (Plain v x) e =
-        let s : record { version = v; value = x } ≡ ending (first_store o) (known o es) l = ap (stands_for (run o es).world) (sym e) ∙ stands in
+        let s : record { version = v; value = x } ≡ ending_store (first_store o) (known o es) l = ap (stands_for (run o es).world) (sym e) ∙ stands in
         λ i. Plain (s i).version (s i).value
     go (Ref g d i) e =
         let c = shape.2 in

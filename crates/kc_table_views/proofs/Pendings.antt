@@ -2,7 +2,7 @@
 use Rattle.std.proofs.Common.{◌≡◌, ◌≢◌, ◌<◌, ℕ, List, [], ◌∷◌, ◌++◌, All, refl, sym, ap, ◌∙◌, subst, arith}
 use Rattle.std.proofs.lemmas.List.Elements.{All-cons, All-head, All-tail}
 use Rattle.kc_machine_answers.proofs.kc_machine.Functions.{put_here}
-use Rattle.kc_machine_answers.specs.kc_machine.Machine.{State, Opening, put, event_of, run_from, run}
+use Rattle.kc_machine_answers.specs.kc_machine.Machine.{State, Opening, put_at_index, event_of, run_from, run}
 use Rattle.kc_machine_answers.specs.kc_machine.Seats.{begun, halted}
 use Rattle.kc_machine_answers.specs.kc_machine.declared.seat.Seat.{Seat}
 use Rattle.kc_machine_answers.specs.kc_machine_traces.Histories.{History}
@@ -95,13 +95,13 @@ waits_from m k [] l w = refl
 waits_from m k (Begin j t ∷ es) l w =
     let e = event_in m (Begin j t) (let q = w.0 in omega arith) in
     let n = event_of m (Begin j t) in
-    let s : n.seats k ≡ begun (m.seats k) t = ap (λ (x : State). x.seats k) e ∙ ap (λ i. put m.seats j (begun (m.seats j) t) i) (sym w.0) ∙ put_here m.seats j (begun (m.seats j) t) ∙ ap (λ i. begun (m.seats i) t) w.0 in
+    let s : n.seats k ≡ begun (m.seats k) t = ap (λ (x : State). x.seats k) e ∙ ap (λ i. put_at_index m.seats j (begun (m.seats j) t) i) (sym w.0) ∙ put_here m.seats j (begun (m.seats j) t) ∙ ap (λ i. begun (m.seats i) t) w.0 in
     waits_from n k es (let c : n.callers ≡ m.callers = ap (λ (x : State). x.callers) e in omega arith) w.1 ∙ ap (λ x. applied x es) s
 waits_from m k (Step j ∷ es) l w = absurd w
 waits_from m k (Halt j ∷ es) l w =
     let e = event_in m (Halt j) (let q = w.0 in omega arith) in
     let n = event_of m (Halt j) in
-    let s : n.seats k ≡ halted (m.seats k) = ap (λ (x : State). x.seats k) e ∙ ap (λ i. put m.seats j (halted (m.seats j)) i) (sym w.0) ∙ put_here m.seats j (halted (m.seats j)) ∙ ap (λ i. halted (m.seats i)) w.0 in
+    let s : n.seats k ≡ halted (m.seats k) = ap (λ (x : State). x.seats k) e ∙ ap (λ i. put_at_index m.seats j (halted (m.seats j)) i) (sym w.0) ∙ put_here m.seats j (halted (m.seats j)) ∙ ap (λ i. halted (m.seats i)) w.0 in
     waits_from n k es (let c : n.callers ≡ m.callers = ap (λ (x : State). x.callers) e in omega arith) w.1 ∙ ap (λ x. applied x es) s
 
 pub waits_world : (o : Opening) (es pending : List Event) (k : ℕ) → AllWait k pending → (run o (es ++ pending)).world ≡ (run o es).world

@@ -7,7 +7,7 @@ use Rattle.kc_machine_answers.specs.kc_machine.Seats.{own_of}
 use Rattle.kc_machine_answers.specs.kc_machine_traces.Histories.{History, Grows, EntriesDiffer, IsLegalHistory}
 use Rattle.kc_machine_answers.specs.kc_machine_traces.Traces.{trace, first_store, IsHonest}
 use Rattle.kc_machine_answers.specs.kc_machine_steps.declared.task.Event.{Event}
-use Rattle.kc_machine_answers.specs.kc_machine_traces.Entries.{by}
+use Rattle.kc_machine_answers.specs.kc_machine_traces.Entries.{placed_by}
 use Rattle.kc_machine_answers.specs.kc_machine_traces.Parts.{NoneOf}
 
 abbrev pub known : Opening → List Event → History
@@ -27,7 +27,7 @@ GoesOn k past es = (rest : List Event) × (es ≡ past ++ rest) × NoneOf k rest
 -- of the one history `whole`, what seat k knows is a part, with all of the seat's own entries
 pub record KnowsAPart (k : ℕ) (whole part : History) : Type 0 where
   pub grows : Grows part whole
-  pub own : by k whole ≡ by k part
+  pub own : placed_by k whole ≡ placed_by k part
 
 -- a history that is legal from the opening, in which no call stands twice, and of callers alone
 pub record IsWhole (o : Opening) (h : History) : Type 0 where

@@ -3,7 +3,7 @@ use Rattle.std.specs.Prelude.{◌≡◌, ℕ, ◌<◌, ◌≤◌, List, [], ◌�
 use Rattle.kc_machine_answers.specs.kc_machine.Machine.{Opening, run}
 use Rattle.kc_machine_answers.specs.kc_machine.Seats.{is_idle, begun}
 use Rattle.kc_machine_answers.specs.kc_machine_traces.Claims.{HasPut}
-use Rattle.kc_machine_answers.specs.kc_machine_traces.Histories.{History, Placed, IsKnown, ending, footprint_of}
+use Rattle.kc_machine_answers.specs.kc_machine_traces.Histories.{History, Placed, IsKnown, ending_store, footprint_of}
 use Rattle.kc_machine_answers.specs.kc_machine_traces.Traces.{first_store, swap_line}
 use Rattle.kc_machine_answers.specs.kc_machine_steps.declared.task.Event.{Event}
 use Rattle.kc_machine_answers.specs.kc_machine_steps.declared.task.Event.TheVariants.{Begin}
@@ -20,7 +20,7 @@ abbrev pub ran : ℕ → Task → List Event → List Event → List Event
 ran k t before rest = before ++ Begin k t ∷ rest
 
 -- as seat k stood idle behind `before` it began this task, and in `rest` no other
-pub record Runs (o : Opening) (k : ℕ) (t : Task) (before rest : List Event) : Type 0 where
+pub record SeatRuns (o : Opening) (k : ℕ) (t : Task) (before rest : List Event) : Type 0 where
   pub within : k < o.callers
   pub meant : IsMeant o (ran k t before rest)
   pub idle : is_idle ((run o before).seats k).work ≡ true
@@ -31,7 +31,7 @@ pub record Runs (o : Opening) (k : ℕ) (t : Task) (before rest : List Event) : 
 pub record LookTaught (o : Opening) (l : Loc) (r : Seen) (before past : History) : Type 0 where
   pub of : r.loc ≡ l
   pub known : IsKnown (first_store o) past r
-  pub no_lower : (ending (first_store o) before r.loc.0).version ≤ r.version
+  pub no_lower : (ending_store (first_store o) before r.loc.0).version ≤ r.version
 
 -- a commit that failed at this read: another entry put its location from its version
 abbrev pub FailureTaught : Footprint → ℕ → History → Type 0
@@ -44,5 +44,5 @@ pub record SuccessTaught (k n : ℕ) (f : Footprint) (m : Mode) (before past : H
   pub behind : All (λ (x : Placed). x.place < place) before
 
 -- what a swap reads and puts
-abbrev pub put_of : Seen → ℕ → Footprint
-put_of r after = footprint_of (swap_line r after ∷ [])
+abbrev pub put_by_swap : Seen → ℕ → Footprint
+put_by_swap r after = footprint_of (swap_line r after ∷ [])

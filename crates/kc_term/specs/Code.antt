@@ -22,9 +22,9 @@ step None (suc (suc zero)) items = items
 step None (suc (suc (suc k))) (forest ts ∷ tree t ∷ items) = forest (more t ts) ∷ items
 step None (suc (suc (suc k))) items = items
 
-abbrev run : {O : Type 0} → List (Token O) → List (Item O) → List (Item O)
-run [] items = items
-run (token ∷ tokens) items = run tokens (step token.0 token.1 items)
+abbrev run_tokens : {O : Type 0} → List (Token O) → List (Item O) → List (Item O)
+run_tokens [] items = items
+run_tokens (token ∷ tokens) items = run_tokens tokens (step token.0 token.1 items)
 
 abbrev mutual
   tokens : {O : Type 0} → Tree O → List (Token O)
@@ -36,27 +36,27 @@ abbrev mutual
   all_tokens none = (None, 0) ∷ []
   all_tokens (more t ts) = tokens t ++ (all_tokens ts ++ (None, 3) ∷ [])
 
-pub run-append : {O : Type 0} (xs ys : List (Token O)) (items : List (Item O)) → run (xs ++ ys) items ≡ run ys (run xs items)
+pub run-append : {O : Type 0} (xs ys : List (Token O)) (items : List (Item O)) → run_tokens (xs ++ ys) items ≡ run_tokens ys (run_tokens xs items)
 run-append [] ys items = refl
 run-append (x ∷ xs) ys items = run-append xs ys (step x.0 x.1 items)
 
 mutual
-  pub run-tokens : {O : Type 0} (t : Tree O) (items : List (Item O)) → run (tokens t) items ≡ tree t ∷ items
+  pub run-tokens : {O : Type 0} (t : Tree O) (items : List (Item O)) → run_tokens (tokens t) items ≡ tree t ∷ items
   run-tokens (op o) items = refl
-  run-tokens (seq ts) items = run-append (all_tokens ts) ((None, 1) ∷ []) items ∙ ap (run ((None, 1) ∷ [])) (run-all_tokens ts items)
+  run-tokens (seq ts) items = run-append (all_tokens ts) ((None, 1) ∷ []) items ∙ ap (run_tokens ((None, 1) ∷ [])) (run-all_tokens ts items)
   run-tokens (first a b) items =
-      run-append (tokens a) (tokens b ++ (None, 2) ∷ []) items ∙ ap (run (tokens b ++ (None, 2) ∷ [])) (run-tokens a items)
-      ∙ run-append (tokens b) ((None, 2) ∷ []) (tree a ∷ items) ∙ ap (run ((None, 2) ∷ [])) (run-tokens b (tree a ∷ items))
+      run-append (tokens a) (tokens b ++ (None, 2) ∷ []) items ∙ ap (run_tokens (tokens b ++ (None, 2) ∷ [])) (run-tokens a items)
+      ∙ run-append (tokens b) ((None, 2) ∷ []) (tree a ∷ items) ∙ ap (run_tokens ((None, 2) ∷ [])) (run-tokens b (tree a ∷ items))
 
-  pub run-all_tokens : {O : Type 0} (ts : Trees O) (items : List (Item O)) → run (all_tokens ts) items ≡ forest ts ∷ items
+  pub run-all_tokens : {O : Type 0} (ts : Trees O) (items : List (Item O)) → run_tokens (all_tokens ts) items ≡ forest ts ∷ items
   run-all_tokens none items = refl
   run-all_tokens (more t ts) items =
-      run-append (tokens t) (all_tokens ts ++ (None, 3) ∷ []) items ∙ ap (run (all_tokens ts ++ (None, 3) ∷ [])) (run-tokens t items)
-      ∙ run-append (all_tokens ts) ((None, 3) ∷ []) (tree t ∷ items) ∙ ap (run ((None, 3) ∷ [])) (run-all_tokens ts (tree t ∷ items))
+      run-append (tokens t) (all_tokens ts ++ (None, 3) ∷ []) items ∙ ap (run_tokens (all_tokens ts ++ (None, 3) ∷ [])) (run-tokens t items)
+      ∙ run-append (all_tokens ts) ((None, 3) ∷ []) (tree t ∷ items) ∙ ap (run_tokens ((None, 3) ∷ [])) (run-all_tokens ts (tree t ∷ items))
 
 abbrev top : {O : Type 0} → List (Item O) → Tree O
 top (tree t ∷ items) = t
 top _ = seq none
 
 abbrev pub tree_code : {O : Type 0} → Coded O → Coded (Tree O)
-tree_code {O} code = code_by (List (Token O)) (coded_list (coded× (coded_option code) coded_ℕ)) tokens (λ ts. top (run ts [])) (λ t. ap top (run-tokens t []))
+tree_code {O} code = code_by (List (Token O)) (coded_list (coded× (coded_option code) coded_ℕ)) tokens (λ ts. top (run_tokens ts [])) (λ t. ap top (run-tokens t []))

@@ -14,12 +14,12 @@ naming t m j (suc n) = cond (m (place_at t n) == j) 1 0 + naming t m j n
 abbrev pub IsSaid : (names leases places : ℕ) → Type 0
 IsSaid names leases places = (names ≡ places) ⊎ ((names ≡ BURIED) × (places ≡ 0) × (leases ≡ 0))
 
-abbrev pub IsWellFormed : Texts → (ℕ → ℕ) → Type 0
-IsWellFormed t m = (j : ℕ) → IsText t j → IsSaid (m (names_at t j)) (m (leases_at t j)) (naming t m j t.places)
+abbrev pub TextsAreWellFormed : Texts → (ℕ → ℕ) → Type 0
+TextsAreWellFormed t m = (j : ℕ) → IsText t j → IsSaid (m (names_at t j)) (m (leases_at t j)) (naming t m j t.places)
 
 -- likewise, in the words of the structures: they stand for nothing further
 abbrev pub Formed : Texts → Standing (Unit {0})
-Formed t m content = IsWellFormed t m
+Formed t m content = TextsAreWellFormed t m
 
 -- l is one of the cells
 abbrev pub IsCell : Texts → ℕ → Type 0

@@ -2,7 +2,7 @@
 
 ghost use Rattle.std.specs.Prelude.{◌≡◌, ◌≤◌, true, length};
 ghost use Rattle.kc_store.specs.Knows.{Remembers};
-ghost use Rattle.kc_text.specs.Meaning.{IsText, cells_end};
+ghost use Rattle.kc_text.specs.Meaning.{IsText, texts_cells_end};
 ghost use Rattle.kc_text.specs.Reading.{Buries};
 
 use crate::committing::commit_act;
@@ -37,7 +37,7 @@ pub fn bury_text<R: Wait>(
     requires caller { caller.old.of ≡ store.now }
     requires pool { length pool.now ≡ texts.now.texts }
     requires number { IsText texts.now number }
-    requires within { cells_end texts.now ≤ store.now.locations }
+    requires within { texts_cells_end texts.now ≤ store.now.locations }
     ensures buries { Buries pool.now texts.now number result caller.old caller.new }
     ensures remembers { Remembers caller.old caller.new }
     ensures worn { caller.old.worn ≡ true → result ≡ Buried.Worn Wear.Pool }

@@ -2,8 +2,8 @@
 
 ghost use Rattle.std.specs.Prelude.{◌≡◌, ◌≤◌, true, Err, IfErr, IfOk};
 ghost use Rattle.kc_store.specs.Knows.{Remembers};
-ghost use Rattle.kc_text.specs.Committing.{Commits, FailsBy};
-ghost use Rattle.kc_text.specs.Meaning.{IsFitAct, cells_end};
+ghost use Rattle.kc_text.specs.Committing.{CommitsText, FailsBy};
+ghost use Rattle.kc_text.specs.Meaning.{IsFitAct, texts_cells_end};
 
 use crate::operation::{TextAct, TextOp};
 use crate::texts::Texts;
@@ -21,8 +21,8 @@ pub(crate) fn commit_act<R: Wait>(
 ) -> Result<(Reply, Footprint), Wear>
     requires caller { caller.old.of ≡ store.now }
     requires fit { IsFitAct texts.now act }
-    requires within { cells_end texts.now ≤ store.now.locations }
-    ensures done { IfOk result (λ r. Commits texts.now act r.0 r.1 caller.old caller.new) }
+    requires within { texts_cells_end texts.now ≤ store.now.locations }
+    ensures done { IfOk result (λ r. CommitsText texts.now act r.0 r.1 caller.old caller.new) }
     ensures fails { IfErr result (λ w. FailsBy texts.now act w caller.old caller.new) }
     ensures remembers { Remembers caller.old caller.new }
     ensures worn { caller.old.worn ≡ true → result ≡ Err Wear.Pool }

@@ -7,8 +7,8 @@ ghost use Rattle.kc_model.specs.declared.footprint.Entry.{Entry};
 ghost use Rattle.kc_model.specs.declared.footprint.Footprint.{Footprint};
 ghost use Rattle.kc_model.specs.declared.reply.Answer.{Answer};
 ghost use Rattle.kc_text.specs.Forming.{Formed, text_opening};
-ghost use Rattle.kc_text.specs.Meaning.{IsFit, cells_end, op, text_begin, text_end, text_meaning, texts_cells};
-ghost use Rattle.kc_text.specs.Replies.{ActSays, Says};
+ghost use Rattle.kc_text.specs.Meaning.{IsFit, texts_cells_end, op, text_begin, text_end, text_meaning, texts_cells};
+ghost use Rattle.kc_text.specs.Replies.{ActSays, AnswerSays};
 ghost use Rattle.kc_text.specs.declared.operation.TextAct.{TextAct};
 ghost use Rattle.kc_text.specs.declared.operation.TextOp.{TextOp};
 ghost use Rattle.kc_text.specs.declared.texts.Texts.{Texts};
@@ -28,13 +28,13 @@ pub fn touches_its_own_cells()
 pub fn keeps_well_formed()
     ensures opens { (t : Texts) → Opens (Formed t) t.base.0 (texts_cells t) text_opening tt }
     ensures keeps { (o : TextOp) → IsFit o → KeepsWellFormed (Formed o.texts) (text_meaning o) }
-    ensures own { (t : Texts) → DependsOnItsCells (Formed t) t.base.0 (cells_end t) }
+    ensures own { (t : Texts) → DependsOnItsCells (Formed t) t.base.0 (texts_cells_end t) }
 {}
 
 /// An operation replies, and never waits. Wherever its footprint is found its reply says so of the cells; so at its place in a
 /// legal history.
 pub fn replies_say_what_stood()
-    ensures says { (t : Texts) (b : TextAct) (a : Answer) (f : Footprint) (s : Cells) → Answers (text_meaning (op t b)) a f → Finds f s → Says (ActSays t (values s) b) a }
+    ensures says { (t : Texts) (b : TextAct) (a : Answer) (f : Footprint) (s : Cells) → Answers (text_meaning (op t b)) a f → Finds f s → AnswerSays (ActSays t (values s) b) a }
     ensures never_waits { (t : Texts) (b : TextAct) (f : Footprint) → ¬ Waits (text_meaning (op t b)) f }
     ensures at_place { (s m e : Cells) (before behind : List Entry) (x : Entry) → IsLegal s before m → IsLegal s (before ++ x ∷ behind) e → Finds x.footprint m }
 {}

@@ -1,7 +1,7 @@
 //! What the cells of shared texts are.
 
 ghost use Rattle.std.specs.Prelude.{◌≡◌, ◌≤◌, ◌<◌, ◌+◌, ◌*◌};
-ghost use Rattle.kc_text.specs.Meaning.{IsText, cells_end, fewer, leases_at, more, named, names_at, place_at, texts_cells};
+ghost use Rattle.kc_text.specs.Meaning.{IsText, texts_cells_end, fewer, leases_at, more, text_named, names_at, place_at, texts_cells};
 
 use crate::texts::{BURIED, MOST_PLACES, MOST_TEXTS, Texts};
 use kc_model::{Loc, MOST_LOCATIONS};
@@ -39,7 +39,7 @@ impl Texts {
 
     /// A number above the location of its last cell.
     pub fn end(&self) -> u32
-        ensures { result ≡ cells_end self.now }
+        ensures { result ≡ texts_cells_end self.now }
     {
         self.base.0 + self.cells()
     }
@@ -61,7 +61,7 @@ impl Texts {
 
     /// The text that a place's number names: one above the number of texts names none, as 0 does.
     pub(crate) fn named(&self, number: u32) -> u32
-        ensures { result ≡ named self.now number }
+        ensures { result ≡ text_named self.now number }
     {
         if number > self.texts { 0 } else { number }
     }

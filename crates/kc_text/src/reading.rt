@@ -3,7 +3,7 @@
 ghost use Rattle.std.specs.Prelude.{◌≡◌, ◌≤◌, ◌<◌, true, length};
 ghost use Rattle.std.specs.Fn.{FnOnceReturnsAt};
 ghost use Rattle.kc_store.specs.Knows.{Remembers};
-ghost use Rattle.kc_text.specs.Meaning.{IsText, cells_end};
+ghost use Rattle.kc_text.specs.Meaning.{IsText, texts_cells_end};
 ghost use Rattle.kc_text.specs.Reading.{AnswersBehind, ReadsText};
 
 use crate::committing::commit_act;
@@ -58,7 +58,7 @@ pub fn read_text<R: Wait, A, F: FnOnce(&Text) -> A>(
     requires caller { caller.old.of ≡ store.now }
     requires pool { length pool.now ≡ texts.now.texts }
     requires place { place < texts.now.places }
-    requires within { cells_end texts.now ≤ store.now.locations }
+    requires within { texts_cells_end texts.now ≤ store.now.locations }
     requires callable { F.IsAlwaysCallable f }
     ensures reads { ReadsText (FnOnceReturnsAt F.FnOnce f) pool.now texts.now place result caller.old caller.new }
     ensures remembers { Remembers caller.old caller.new }
@@ -90,7 +90,7 @@ fn give_back<R: Wait, A>(
 ) -> TextRead<A>
     requires caller { caller.old.of ≡ store.now }
     requires number { IsText texts.now number }
-    requires within { cells_end texts.now ≤ store.now.locations }
+    requires within { texts_cells_end texts.now ≤ store.now.locations }
     ensures gives { AnswersBehind texts.now number made lease result caller.old caller.new }
     ensures remembers { Remembers caller.old caller.new }
 {

@@ -38,15 +38,15 @@ or_next n (Some w) rest = Some (n, w)
 or_next n None rest = rest
 
 -- the first line of which a test fails, with its number, the first of these lines being this one; and the first such test
-abbrev pub first_fault : (ℕ → List ℕ → List (Bool × Why)) → ℕ → List (List ℕ) → Option (ℕ × Why)
-first_fault tests n [] = None
-first_fault tests n (x ∷ xs) = or_next n (first_failing (tests n x)) (first_fault tests (suc n) xs)
+abbrev pub first_faulty_line : (ℕ → List ℕ → List (Bool × Why)) → ℕ → List (List ℕ) → Option (ℕ × Why)
+first_faulty_line tests n [] = None
+first_faulty_line tests n (x ∷ xs) = or_next n (first_failing (tests n x)) (first_faulty_line tests (suc n) xs)
 
 abbrev pub texts_fault : List ℕ → Option (ℕ × Why)
-texts_fault bytes = first_fault text_tests 1 (file_lines bytes)
+texts_fault bytes = first_faulty_line text_tests 1 (file_lines bytes)
 
 abbrev pub picks_fault : (texts : ℕ) → List ℕ → Option (ℕ × Why)
-picks_fault texts bytes = first_fault (pick_tests texts) 1 (file_lines bytes)
+picks_fault texts bytes = first_faulty_line (pick_tests texts) 1 (file_lines bytes)
 
 -- the part, the line and what is wrong with it: the texts are part 1, the picks part 2
 abbrev pub in_parts : Option (ℕ × Why) → Option (ℕ × Why) → Option (ℕ × ℕ × Why)
@@ -65,16 +65,16 @@ IsRefused fault error.NoMemory = Unit {0}
 -- ---- what is written
 
 -- a line, as it stands in a file
-abbrev pub line_of : List ℕ → List ℕ
-line_of text = text ++ 10 ∷ []
+abbrev pub file_line : List ℕ → List ℕ
+file_line text = text ++ 10 ∷ []
 
 -- what the lines spell
 abbrev pub picks_in : List ℕ → List ℕ
 picks_in bytes = map (value_on 0) (file_lines bytes)
 
 -- the picked ones of these texts, a line for each
-abbrev pub picked : List (List ℕ) → List ℕ → List ℕ
-picked texts picks = flat_map (λ k. line_of (slice_index_or texts (k - 1) [])) picks
+abbrev pub picked_lines : List (List ℕ) → List ℕ → List ℕ
+picked_lines texts picks = flat_map (λ k. file_line (slice_index_or texts (k - 1) [])) picks
 
 abbrev pub written_of : (texts picks : List ℕ) → List ℕ
-written_of texts picks = picked (file_lines texts) (picks_in picks)
+written_of texts picks = picked_lines (file_lines texts) (picks_in picks)

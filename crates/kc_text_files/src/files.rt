@@ -1,7 +1,7 @@
 //! Reading the two files.
 
 ghost use Rattle.std.specs.Prelude.{◌≡◌, ◌≤◌, length, map, All, None, IfErr, IfOk};
-ghost use Rattle.kc_text_files.specs.Files.{IsRefused, file_lines, first_fault, picks_fault, picks_in, pick_tests, text_tests, texts_fault};
+ghost use Rattle.kc_text_files.specs.Files.{IsRefused, file_lines, first_faulty_line, picks_fault, picks_in, pick_tests, text_tests, texts_fault};
 ghost use Rattle.kc_script_lines.specs.Words.{value_on};
 
 use crate::MOST_PICKS;
@@ -45,10 +45,10 @@ pub fn picks_of(alloc: Global, texts: u32, bytes: &[u8]) -> Result<Vec<u32>, Scr
 }
 
 fn read_texts(alloc: Global, rows: &[&[u8]]) -> Result<Vec<Text>, ScriptError>
-    ensures right { IfOk result (λ texts. first_fault text_tests 1 (map (λ row. row.now) rows.now) ≡ None) }
+    ensures right { IfOk result (λ texts. first_faulty_line text_tests 1 (map (λ row. row.now) rows.now) ≡ None) }
     ensures texts { IfOk result (λ texts. texts.items ≡ map (λ row. row.now) rows.now) }
     ensures few { IfOk result (λ texts. length texts.items ≤ MOST_TEXTS) }
-    ensures wrong { IfErr result (λ e. IsRefused (first_fault text_tests 1 (map (λ row. row.now) rows.now)) e) }
+    ensures wrong { IfErr result (λ e. IsRefused (first_faulty_line text_tests 1 (map (λ row. row.now) rows.now)) e) }
 {
     let mut texts = Vec::with_capacity(alloc, rows.len().min(MOST_TEXTS as usize))?;
     for i in 0..rows.len() {
@@ -64,11 +64,11 @@ fn read_texts(alloc: Global, rows: &[&[u8]]) -> Result<Vec<Text>, ScriptError>
 }
 
 fn read_picks(alloc: Global, texts: u32, rows: &[&[u8]]) -> Result<Vec<u32>, ScriptError>
-    ensures right { IfOk result (λ picks. first_fault (pick_tests texts) 1 (map (λ row. row.now) rows.now) ≡ None) }
+    ensures right { IfOk result (λ picks. first_faulty_line (pick_tests texts) 1 (map (λ row. row.now) rows.now) ≡ None) }
     ensures picks { IfOk result (λ picks. picks.items ≡ map (value_on 0) (map (λ row. row.now) rows.now)) }
     ensures few { IfOk result (λ picks. length picks.items ≤ MOST_PICKS) }
     ensures within { IfOk result (λ picks. All (λ k. (1 ≤ k) × (k ≤ texts)) picks.items) }
-    ensures wrong { IfErr result (λ e. IsRefused (first_fault (pick_tests texts) 1 (map (λ row. row.now) rows.now)) e) }
+    ensures wrong { IfErr result (λ e. IsRefused (first_faulty_line (pick_tests texts) 1 (map (λ row. row.now) rows.now)) e) }
 {
     let mut picks = Vec::with_capacity(alloc, rows.len().min(MOST_PICKS as usize))?;
     for i in 0..rows.len() {

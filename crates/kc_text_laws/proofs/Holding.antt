@@ -20,9 +20,9 @@ use Rattle.kc_model.specs.declared.reply.Reply.TheVariants as reply
 use Rattle.kc_text.proofs.kc_store.Placing.{finds_behind}
 use Rattle.kc_text.proofs.Replies.{says_there}
 use Rattle.kc_text.proofs.Room.{text_small}
-use Rattle.kc_text.specs.Forming.{AreZero, IsCell, IsWellFormed}
-use Rattle.kc_text_laws.specs.Holding.{ActsOn, EndsItsOwn, KeepTexts, Leaves, LeasesAre, ends_lease, holders, holders_after, nobody, opens_lease, turns, without, written}
-use Rattle.kc_text.specs.Meaning.{IsFitAct, IsText, leases_at, named, names_at, op, place_at, text_meaning, text_program}
+use Rattle.kc_text.specs.Forming.{AreZero, IsCell, TextsAreWellFormed}
+use Rattle.kc_text_laws.specs.Holding.{ActsOnTexts, EndsItsOwn, KeepTexts, LeavesTexts, LeasesAre, ends_lease, holders, holders_after, nobody, opens_lease, turns, without, written_at}
+use Rattle.kc_text.specs.Meaning.{IsFitAct, IsText, leases_at, text_named, names_at, op, place_at, text_meaning, text_program}
 use Rattle.kc_text.specs.declared.operation.TextAct.{TextAct}
 use Rattle.kc_text.specs.declared.operation.TextAct.TheVariants as act
 use Rattle.kc_text.specs.declared.texts.TheConstants.{BURIED}
@@ -40,7 +40,7 @@ left_by None s l = refl
 left_by (Some p) s l = refl
 
 -- at a location stands what was written there, or what stood before
-left_at : (f : Footprint) (s : Store) (l : ℕ) → values (after f s) l ≡ unwrap_or (written f l) (values s l)
+left_at : (f : Footprint) (s : Store) (l : ℕ) → values (after f s) l ≡ unwrap_or (written_at f l) (values s l)
 left_at f s l = left_by (put_at f.puts.items l) s l
 
 found_put : (ps : List Put) (l : ℕ) (p : Put) → put_at ps l ≡ Some p → Contains ps p × (p.loc.0 ≡ l)
@@ -99,20 +99,20 @@ module _ (t : Texts) where
     act_turns (act.Name p i) fit =
         plain_if Turns m (m (names_at t i) == BURIED) _ _ (λ _. inl refl) (λ _.
         plain_if Turns m (m (place_at t p) == i) _ _ (λ _. inl refl) (λ _.
-        plain_if Turns m (named t (m (place_at t p)) == 0) _ _
+        plain_if Turns m (text_named t (m (place_at t p)) == 0) _ _
         (λ z. inl (grind (arith, nat_tests, fit, text)))
-        (λ z. let is : named t (m (place_at t p)) ≡ m (place_at t p) = grind (arith, nat_tests, z) in
-        let some : IsText t (named t (m (place_at t p))) = (grind (arith, nat_tests, z), grind (arith, nat_tests, z)) in
+        (λ z. let is : text_named t (m (place_at t p)) ≡ m (place_at t p) = grind (arith, nat_tests, z) in
+        let some : IsText t (text_named t (m (place_at t p))) = (grind (arith, nat_tests, z), grind (arith, nat_tests, z)) in
         inl (grind (arith, nat_tests, fit, text, some)))))
     act_turns (act.Clear p) fit =
-        plain_if Turns m (named t (m (place_at t p)) == 0) _ _ (λ _. inl refl) (λ _.
-        plain_if Turns m (named t (m (place_at t p)) == 0) _ _
+        plain_if Turns m (text_named t (m (place_at t p)) == 0) _ _ (λ _. inl refl) (λ _.
+        plain_if Turns m (text_named t (m (place_at t p)) == 0) _ _
         (λ z. inl (grind (arith, nat_tests, fit, text)))
-        (λ z. let some : IsText t (named t (m (place_at t p))) = (grind (arith, nat_tests, z), grind (arith, nat_tests, z)) in
+        (λ z. let some : IsText t (text_named t (m (place_at t p))) = (grind (arith, nat_tests, z), grind (arith, nat_tests, z)) in
         inl (grind (arith, nat_tests, fit, text, some))))
     act_turns (act.Lease p) fit =
-        plain_if Turns m (named t (m (place_at t p)) == 0) _ _ (λ _. inl refl) (λ z.
-        plain_if Turns m (m (leases_at t (named t (m (place_at t p)))) == BURIED) _ _ (λ _. inl refl) (λ _.
+        plain_if Turns m (text_named t (m (place_at t p)) == 0) _ _ (λ _. inl refl) (λ z.
+        plain_if Turns m (m (leases_at t (text_named t (m (place_at t p)))) == BURIED) _ _ (λ _. inl refl) (λ _.
         leased _ _ (grind (arith, nat_tests, z), grind (arith, nat_tests, z)) (inr (inl refl))))
     act_turns (act.Return i) fit =
         plain_if Turns m (m (leases_at t i) == 0) _ _ (λ _. inl refl) (λ z.
@@ -125,13 +125,13 @@ module _ (t : Texts) where
   -- ---- one entry
 
   -- what an entry that acts on the texts leaves in a cell
-  pub acted : (s : Store) (f : Footprint) (a : ActsOn t s f) (l : ℕ) → IsCell t l → values (after f s) l ≡ (plain (text_program t a.act replies) (values s)).map l
+  pub acted : (s : Store) (f : Footprint) (a : ActsOnTexts t s f) (l : ℕ) → IsCell t l → values (after f s) l ≡ (plain (text_program t a.act replies) (values s)).map l
   acted s f a l cell =
       let ts = (run_on (text_meaning (op t a.act)) s).touches in
       let is_plain = plain-meaning (text_program t a.act replies) MOST (values s) [] (text_small (op t a.act) s) in
       left_at f s l ∙ ap (λ (o : Option ℕ). unwrap_or o (values s l)) (a.puts l cell) ∙ sym (map_after-at (values s) ts l) ∙ ap (λ (w : ℕ → ℕ). w l) is_plain.1
 
-  pub left : (s : Store) (f : Footprint) → Leaves t f → (l : ℕ) → IsCell t l → values (after f s) l ≡ values s l
+  pub left : (s : Store) (f : Footprint) → LeavesTexts t f → (l : ℕ) → IsCell t l → values (after f s) l ≡ values s l
   left s f a l cell = left_at f s l ∙ ap (λ (o : Option ℕ). unwrap_or o (values s l)) (a l cell)
 
   length-without : (k : ℕ) (ks : List ℕ) → Contains ks k → length (without k ks) + 1 ≡ length ks
@@ -163,15 +163,15 @@ module _ (t : Texts) where
       rw (a, b) (omega (arith, h, is, c))
 
   pub record Stand (s : Store) (held : ℕ → List ℕ) : Type 0 where
-    pub formed : IsWellFormed t (values s)
+    pub formed : TextsAreWellFormed t (values s)
     pub leases : LeasesAre t (values s) held
 
-  pub step : (s : Store) (held : ℕ → List ℕ) (e : Entry) → Finds e.footprint s → (Leaves t e.footprint ⊎ ActsOn t s e.footprint) → EndsItsOwn t held e → Stand s held → Stand (after e.footprint s) (λ j. holders_after t j e (held j))
+  pub step : (s : Store) (held : ℕ → List ℕ) (e : Entry) → Finds e.footprint s → (LeavesTexts t e.footprint ⊎ ActsOnTexts t s e.footprint) → EndsItsOwn t held e → Stand s held → Stand (after e.footprint s) (λ j. holders_after t j e (held j))
   step s held e finds (inl leaves) own h = record {
     formed = formed_same t (values s) _ (left s e.footprint leaves) h.formed;
     leases = λ j text.
         let l = leases_at t j in
-        let w : written e.footprint l ≡ None = leaves l (cell_of_leases j text) in
+        let w : written_at e.footprint l ≡ None = leaves l (cell_of_leases j text) in
         let a : opens_lease t j e.footprint ≡ false = no_turn nat_lt (read_at e.footprint.reads.items l) (put_at e.footprint.puts.items l) w in
         let b : ends_lease t j e.footprint ≡ false = no_turn (λ x y. nat_lt y x) (read_at e.footprint.reads.items l) (put_at e.footprint.puts.items l) w in
         rw (a, b) (left s e.footprint leaves l (cell_of_leases j text) ∙ h.leases j text);

@@ -14,9 +14,9 @@ use Rattle.kc_model.specs.declared.reply.Answer.TheVariants as answer
 use Rattle.kc_model.specs.declared.reply.Reply.{Reply}
 use Rattle.kc_text.specs.kc_store.Knows.{entries_of}
 use Rattle.kc_text.proofs.Replies.{says_somewhere}
-use Rattle.kc_text_laws.specs.Holding.{ActsOn, EndsItsOwn, KeepTexts, Leaves, ends_lease, holders_after, opens_lease, without, written}
+use Rattle.kc_text_laws.specs.Holding.{ActsOnTexts, EndsItsOwn, KeepTexts, LeavesTexts, ends_lease, holders_after, opens_lease, without, written_at}
 use Rattle.kc_text.specs.Meaning.{op, text_meaning}
-use Rattle.kc_text_laws.specs.Owning.{CallerKeeps, IsOperation, held_on}
+use Rattle.kc_text_laws.specs.Owning.{CallerKeeps, IsTextOperation, held_on}
 use Rattle.kc_text.specs.declared.operation.TextAct.{TextAct}
 use Rattle.kc_text.specs.declared.texts.Texts.{Texts}
 use Rattle.kc_xt.specs.Commit.{Answers, run_on}
@@ -85,14 +85,14 @@ module _ (t : Texts) where
   put_once (Some n) l v = refl
 
   -- what an operation that replied put at a location
-  pub wrote : (b : TextAct) (r : Reply) (f : Footprint) (s : Store) → Answers (text_meaning (op t b)) (answer.Reply r) f → Finds f s → (l : ℕ) → written f l ≡ last_written (run_on (text_meaning (op t b)) s).touches l
+  pub wrote : (b : TextAct) (r : Reply) (f : Footprint) (s : Store) → Answers (text_meaning (op t b)) (answer.Reply r) f → Finds f s → (l : ℕ) → written_at f l ≡ last_written (run_on (text_meaning (op t b)) s).touches l
   wrote b r f s y finds l = ap (option_map (λ (p : Put). p.after)) ((y.makes s finds).puts l) ∙ put_once (last_written (run_on (text_meaning (op t b)) s).touches l) l (s l).version
 
   -- an operation's footprint acts on the texts wherever it is found
-  pub acts : (f : Footprint) (s : Store) → IsOperation t f → Finds f s → ActsOn t s f
+  pub acts : (f : Footprint) (s : Store) → IsTextOperation t f → Finds f s → ActsOnTexts t s f
   acts f s o finds = by_answer o.answer o.answers
     where
-      by_answer : (a : Answer) → Answers (text_meaning (op t o.act)) a f → ActsOn t s f
+      by_answer : (a : Answer) → Answers (text_meaning (op t o.act)) a f → ActsOnTexts t s f
       by_answer (answer.Reply r) y = record {
         act = o.act;
         fit = o.fit;
@@ -110,10 +110,10 @@ module _ (t : Texts) where
       by_test true e keep = same_held (λ j. held_on t j x.footprint (times k (held j))) _ (entries_of k es) (λ j. (let q : x.caller ≡ k = grind (arith, nat_tests, e) in subst (λ i. times i (holders_after t j x (held j)) ≡ held_on t j x.footprint (times i (held j))) q (held_own j x (held j)))) keep.2
       by_test false e keep = same_held (λ j. times k (held j)) _ (entries_of k es) (λ j. held_other j k x (held j) (eqb-false _ _ e)) keep
 
-  head_of : (x : Entry) (es : List Entry) (held : ℕ → List ℕ) → CallerKeeps t (λ j. times x.caller (held j)) (entries_of x.caller (x ∷ es)) → (Leaves t x.footprint ⊎ IsOperation t x.footprint) × EndsItsOwn t held x
+  head_of : (x : Entry) (es : List Entry) (held : ℕ → List ℕ) → CallerKeeps t (λ j. times x.caller (held j)) (entries_of x.caller (x ∷ es)) → (LeavesTexts t x.footprint ⊎ IsTextOperation t x.footprint) × EndsItsOwn t held x
   head_of x es held keep = by_test (x.caller == x.caller) (grind (arith, nat_tests)) keep
     where
-      by_test : (b : Bool) → b ≡ true → CallerKeeps t (λ j. times x.caller (held j)) (cond b (x ∷ entries_of x.caller es) (entries_of x.caller es)) → (Leaves t x.footprint ⊎ IsOperation t x.footprint) × EndsItsOwn t held x
+      by_test : (b : Bool) → b ≡ true → CallerKeeps t (λ j. times x.caller (held j)) (cond b (x ∷ entries_of x.caller es) (entries_of x.caller es)) → (LeavesTexts t x.footprint ⊎ IsTextOperation t x.footprint) × EndsItsOwn t held x
       by_test true e keep = (keep.0, λ j text ends. contains_times x.caller (held j) (keep.1 j text ends))
       by_test false e keep = absurd (cc)
 
@@ -124,7 +124,7 @@ module _ (t : Texts) where
       let here = head_of x es held (keep x.caller) in
       (by_kind here.0, here.1, together es (after x.footprint s) end (λ j. holders_after t j x (held j)) legal.1 (λ k. tail_of k x es held (keep k)))
     where
-      by_kind : Leaves t x.footprint ⊎ IsOperation t x.footprint → Leaves t x.footprint ⊎ ActsOn t s x.footprint
+      by_kind : LeavesTexts t x.footprint ⊎ IsTextOperation t x.footprint → LeavesTexts t x.footprint ⊎ ActsOnTexts t s x.footprint
       by_kind (inl a) = inl a
       by_kind (inr a) = inr (acts x.footprint s a legal.0)
 

@@ -8,7 +8,7 @@ use borrow.Author.Tests.{eqb-false}
 use Rattle.kc_model.specs.declared.footprint.Entry.{Entry}
 use Rattle.kc_text.specs.kc_store.Backs.{AreAllCallers}
 use Rattle.kc_text.specs.kc_store.Knows.{IsHistory, entries_of}
-use Rattle.kc_text.specs.kc_store.Views.{CallerView, PastView, StoreView, last, opening}
+use Rattle.kc_text.specs.kc_store.Views.{CallerView, PastView, StoreView, last, store_opening}
 use Rattle.kc_text.specs.kc_store.kc_table_moves.Views.{count_from}
 use Rattle.kc_text.specs.declared.texts.Texts.{Texts}
 use Rattle.kc_text_laws.proofs.Owning.{together}
@@ -49,5 +49,5 @@ module _ (t : Texts) (z : StoreView) (callers : List CallerView) (p : PastView) 
       let above : z.callers ≤ k = grind (arith, nat_tests, e) in
       subst (CallerKeeps t none_held) (sym (none_of k z.callers p.history above history.nobody_else)) tt
 
-  pub of_store : KeepTexts t (opening z) nobody p.history
-  of_store = together t p.history (opening z) (last p) nobody history.legal (λ k. of_caller k (nat_lt k z.callers) refl)
+  pub of_store : KeepTexts t (store_opening z) nobody p.history
+  of_store = together t p.history (store_opening z) (last p) nobody history.legal (λ k. of_caller k (nat_lt k z.callers) refl)

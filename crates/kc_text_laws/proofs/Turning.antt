@@ -13,8 +13,8 @@ use Rattle.kc_text_laws.proofs.Holding.{acted, cell_of_leases, not_below, turned
 use Rattle.kc_text_laws.proofs.Owning.{wrote}
 use Rattle.kc_text.proofs.Room.{text_small}
 use Rattle.kc_text.proofs.TextLaw.{named_some}
-use Rattle.kc_text_laws.specs.Holding.{ActsOn, ended, ends_lease, is_text, opened, opens_lease}
-use Rattle.kc_text.specs.Meaning.{IsFitAct, IsText, fewer, leases_at, more, named, names_at, op, place_at, text_meaning, text_program}
+use Rattle.kc_text_laws.specs.Holding.{ActsOnTexts, lease_ended, ends_lease, is_text, lease_opened, opens_lease}
+use Rattle.kc_text.specs.Meaning.{IsFitAct, IsText, fewer, leases_at, more, text_named, names_at, op, place_at, text_meaning, text_program}
 use Rattle.kc_text.specs.declared.operation.TextAct.{TextAct}
 use Rattle.kc_text.specs.declared.operation.TextAct.TheVariants as act
 use Rattle.kc_text.specs.declared.texts.TheConstants.{BURIED}
@@ -37,11 +37,11 @@ module _ (t : Texts) (j : ℕ) (text : IsText t j) where
     record Turns (a : TextAct) (w : Plain) : Type 0 where
       replies_so : Reply
       is : w.outcome ≡ replied replies_so
-      opens : nat_lt (m (leases_at t j)) (w.map (leases_at t j)) ≡ is_text (opened a replies_so) j
-      ends : nat_lt (w.map (leases_at t j)) (m (leases_at t j)) ≡ is_text (ended a replies_so) j
+      opens : nat_lt (m (leases_at t j)) (w.map (leases_at t j)) ≡ is_text (lease_opened a replies_so) j
+      ends : nat_lt (w.map (leases_at t j)) (m (leases_at t j)) ≡ is_text (lease_ended a replies_so) j
 
     -- where nothing is turned the leases stay
-    same : (a : TextAct) (r : Reply) (u : ℕ → ℕ) → opened a r ≡ None → ended a r ≡ None → u (leases_at t j) ≡ m (leases_at t j) → Turns a (record { outcome = replied r; map = u })
+    same : (a : TextAct) (r : Reply) (u : ℕ → ℕ) → lease_opened a r ≡ None → lease_ended a r ≡ None → u (leases_at t j) ≡ m (leases_at t j) → Turns a (record { outcome = replied r; map = u })
     same a r u o e h = record {
       replies_so = r;
       is = refl;
@@ -81,7 +81,7 @@ module _ (t : Texts) (j : ℕ) (text : IsText t j) where
         let a = act.Name p i in
         let l = leases_at t j in
         let x = more (m (names_at t i)) in
-        let k = named t (m (place_at t p)) in
+        let k = text_named t (m (place_at t p)) in
         let u = put m (names_at t k) (fewer (m (names_at t k))) in
         plain_if (Turns a) m (m (names_at t i) == BURIED) _ _ (λ _. same a (reply.Bool false) m refl refl refl) (λ _.
         plain_if (Turns a) m (m (place_at t p) == i) _ _ (λ _. same a reply.Unit m refl refl refl) (λ _.
@@ -92,7 +92,7 @@ module _ (t : Texts) (j : ℕ) (text : IsText t j) where
     act_turns (act.Clear p) fit =
         let a = act.Clear p in
         let l = leases_at t j in
-        let k = named t (m (place_at t p)) in
+        let k = text_named t (m (place_at t p)) in
         let u = put m (names_at t k) (fewer (m (names_at t k))) in
         plain_if (Turns a) m (k == 0) _ _ (λ _. same a reply.Unit m refl refl refl) (λ _.
         plain_if (Turns a) m (k == 0) _ _
@@ -101,10 +101,10 @@ module _ (t : Texts) (j : ℕ) (text : IsText t j) where
         same a reply.Unit (put u (place_at t p) 0) refl refl (elsewhere u (place_at t p) 0 l (omega (arith, fit)) ∙ elsewhere m (names_at t k) (fewer (m (names_at t k))) l (omega (arith, some, text)))))
     act_turns (act.Lease p) fit =
         let a = act.Lease p in
-        plain_if (Turns a) m (named t (m (place_at t p)) == 0) _ _ (λ _. same a reply.Empty m refl refl refl) (λ z.
-        plain_if (Turns a) m (m (leases_at t (named t (m (place_at t p)))) == BURIED) _ _ (λ _. same a reply.Full m refl refl refl) (λ _.
-        let h = leases_more (named t (m (place_at t p))) (named_some t _ z) in
-        record { replies_so = reply.Value (named t (m (place_at t p))); is = refl; opens = h.0; ends = h.1 }))
+        plain_if (Turns a) m (text_named t (m (place_at t p)) == 0) _ _ (λ _. same a reply.Empty m refl refl refl) (λ z.
+        plain_if (Turns a) m (m (leases_at t (text_named t (m (place_at t p)))) == BURIED) _ _ (λ _. same a reply.Full m refl refl refl) (λ _.
+        let h = leases_more (text_named t (m (place_at t p))) (named_some t _ z) in
+        record { replies_so = reply.Value (text_named t (m (place_at t p))); is = refl; opens = h.0; ends = h.1 }))
     act_turns (act.Return i) fit =
         let a = act.Return i in
         plain_if (Turns a) m (m (leases_at t i) == 0) _ _ (λ _. same a (reply.Bool false) m refl refl refl) (λ z.
@@ -122,15 +122,15 @@ module _ (t : Texts) (j : ℕ) (text : IsText t j) where
   reply_same a b e = cc
 
   -- what the entry of an operation that replied so opens, and what it ends
-  pub turned_so : (a : TextAct) (r : Reply) (f : Footprint) → IsFitAct t a → Answers (text_meaning (op t a)) (answer.Reply r) f → (opens_lease t j f ≡ is_text (opened a r) j) × (ends_lease t j f ≡ is_text (ended a r) j)
+  pub turned_so : (a : TextAct) (r : Reply) (f : Footprint) → IsFitAct t a → Answers (text_meaning (op t a)) (answer.Reply r) f → (opens_lease t j f ≡ is_text (lease_opened a r) j) × (ends_lease t j f ≡ is_text (lease_ended a r) j)
   turned_so a r f fit answers =
       let found = found_somewhere f answers.well_made in
       let s = found.0 in
-      let on : ActsOn t s f = record { act = a; fit = fit; made = answers.well_made; puts = λ l cell. wrote t a r f s answers found.1 l } in
+      let on : ActsOnTexts t s f = record { act = a; fit = fit; made = answers.well_made; puts = λ l cell. wrote t a r f s answers found.1 l } in
       let left = acted t s f on (leases_at t j) (cell_of_leases t j text) in
       let w = act_turns (values s) a fit in
       let is = (plain-meaning (text_program t a replies) MOST (values s) [] (text_small (op t a) s)).0 in
       let so : w.replies_so ≡ r = reply_same w.replies_so r (sym (ap answer_of (is ∙ w.is)) ∙ answers.run s found.1) in
       let opens = turned nat_lt not_below f s answers.well_made found.1 (leases_at t j) in
       let ends = turned (λ x y. nat_lt y x) not_below f s answers.well_made found.1 (leases_at t j) in
-      (opens ∙ rw left w.opens ∙ ap (λ x. is_text (opened a x) j) so, ends ∙ rw left w.ends ∙ ap (λ x. is_text (ended a x) j) so)
+      (opens ∙ rw left w.opens ∙ ap (λ x. is_text (lease_opened a x) j) so, ends ∙ rw left w.ends ∙ ap (λ x. is_text (lease_ended a x) j) so)

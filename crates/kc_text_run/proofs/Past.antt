@@ -9,7 +9,7 @@ use Rattle.kc_run.specs.Kcas.{history_in, values_at, values_in, values_of}
 use Rattle.kc_store.specs.Backs.{AreAllCallers}
 use Rattle.kc_store.specs.Views.{CallerView, PastView, StoreView, caller_view}
 use Rattle.kc_store.specs.kc_machine_traces.Histories.{History, Placed, entries}
-use Rattle.kc_store.specs.kc_machine_traces.Entries.{by}
+use Rattle.kc_store.specs.kc_machine_traces.Entries.{placed_by}
 use Rattle.kc_store.specs.kc_table_moves.Origins.{opening_of}
 use Rattle.kc_store.specs.kc_table_moves.Views.{IsPart, IsPast}
 use Rattle.kc_store.specs.kc_table_views.Known.{known}
@@ -36,9 +36,9 @@ either_way : (b : Bool) (x : Placed) (h : History) (es : List Entry) → es ≡ 
 either_way true x h es e = ap (λ (l : List Entry). x.entry ∷ l) e
 either_way false x h es e = e
 
-entries_by : (k : ℕ) (h : History) → of_caller k (entries h) ≡ entries (by k h)
+entries_by : (k : ℕ) (h : History) → of_caller k (entries h) ≡ entries (placed_by k h)
 entries_by k [] = refl
-entries_by k (x ∷ h) = either_way (x.entry.caller == k) x (by k h) (of_caller k (entries h)) (entries_by k h)
+entries_by k (x ∷ h) = either_way (x.entry.caller == k) x (placed_by k h) (of_caller k (entries h)) (entries_by k h)
 
 own_part : (p : PastView) (c : CallerView) → IsShown c → IsPart (opening_of p.past.origin) p.past.schedule c.seat → of_caller c.number (history_in p) ≡ c.own
 own_part p c shown part =

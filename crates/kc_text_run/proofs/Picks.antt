@@ -11,20 +11,20 @@ use Rattle.kc_model.specs.declared.reply.Reply.TheVariants as reply
 use Rattle.kc_store.specs.Knows.{AddsOne, Remembers, entry_of}
 use Rattle.kc_store.proofs.Remembering.{remembers_on}
 use Rattle.kc_store.specs.Views.{CallerView}
-use Rattle.kc_text.specs.Committing.{Commits}
+use Rattle.kc_text.specs.Committing.{CommitsText}
 use Rattle.kc_text.specs.Meaning.{IsFitAct, IsText, op, text_meaning}
 use Rattle.kc_text.specs.Pool.{IsTextOf}
 use Rattle.kc_text.specs.declared.operation.TextAct.{TextAct}
 use Rattle.kc_text.specs.declared.operation.TextAct.TheVariants as act
 use Rattle.kc_text.specs.declared.texts.Texts.{Texts}
 use Rattle.kc_text_laws.proofs.Turning.{turned_so}
-use Rattle.kc_text_laws.specs.Holding.{ended, ends_lease, is_text, opens_lease}
+use Rattle.kc_text_laws.specs.Holding.{lease_ended, ends_lease, is_text, opens_lease}
 use Rattle.kc_text_laws.specs.Owning.{CallerKeeps, held_on}
 use Rattle.kc_text_run.specs.Picking.{AddsPicks, ArePicks, AreTextsOf}
 use Rattle.kc_xt.specs.Commit.{Answers}
 
 module _ (t : Texts) (p : ℕ) where
-  pub one_pick : (pick : ℕ) (c a b d : CallerView) (f g h : Footprint) (r : Reply) → Answers (text_meaning (op t (act.Name p pick))) (answer.Reply reply.Unit) f → AddsOne c f a → Commits t (act.Lease p) (reply.Value pick) g a b → Commits t (act.Return pick) r h b d → AddsPicks t p (pick ∷ []) c d
+  pub one_pick : (pick : ℕ) (c a b d : CallerView) (f g h : Footprint) (r : Reply) → Answers (text_meaning (op t (act.Name p pick))) (answer.Reply reply.Unit) f → AddsOne c f a → CommitsText t (act.Lease p) (reply.Value pick) g a b → CommitsText t (act.Return pick) r h b d → AddsPicks t p (pick ∷ []) c d
   one_pick pick c a b d f g h r names named leases ends =
       let ea = entry_of c.number named.0 f in
       let eb = entry_of a.number leases.entry.0 g in
@@ -116,7 +116,7 @@ module _ (t : Texts) (p : ℕ) (place : p < t.places) where
       let opens : opens_lease t j b.footprint ≡ true = o ∙ same in
       rw opens (omega arith)
     where
-      by_reply : (r : Reply) → is_text (ended (act.Return k) r) j ≡ true → is_text (Some k) j ≡ true
+      by_reply : (r : Reply) → is_text (lease_ended (act.Return k) r) j ≡ true → is_text (Some k) j ≡ true
       by_reply reply.Unit h = h
       by_reply (reply.Value v) h = absurd (cc)
       by_reply (reply.Bool x) h = absurd (cc)
@@ -126,8 +126,8 @@ module _ (t : Texts) (p : ℕ) (place : p < t.places) where
       by_reply reply.Cancelled h = absurd (cc)
       by_reply (reply.Many items) h = absurd (cc)
 
-  ends_none : (a : TextAct) (r : Reply) (e : Entry) (j : ℕ) → IsText t j → IsFitAct t a → ended a r ≡ None → Answers (text_meaning (op t a)) (answer.Reply r) e.footprint → ends_lease t j e.footprint ≡ true → ⊥
-  ends_none a r e j text fit none answers h = no_text (ended a r) j none (sym (turned_so t j text a r e.footprint fit answers).1 ∙ h)
+  ends_none : (a : TextAct) (r : Reply) (e : Entry) (j : ℕ) → IsText t j → IsFitAct t a → lease_ended a r ≡ None → Answers (text_meaning (op t a)) (answer.Reply r) e.footprint → ends_lease t j e.footprint ≡ true → ⊥
+  ends_none a r e j text fit none answers h = no_text (lease_ended a r) j none (sym (turned_so t j text a r e.footprint fit answers).1 ∙ h)
 
   pub picks_keep : (ks : List ℕ) (es : List Entry) (held : ℕ → ℕ) → All (IsText t) ks → ArePicks t p ks es → CallerKeeps t held es
   picks_keep [] [] held texts h = tt

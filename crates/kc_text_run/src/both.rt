@@ -1,7 +1,7 @@
 //! Two callers on threads, each of which reads a half of the picks.
 
 ghost use Rattle.std.specs.Prelude.{◌≡◌, ◌≤◌, ◌<◌, ◌++◌, [], length, All, vec_capacity};
-ghost use Rattle.kc_text.specs.Meaning.{IsText, cells_end};
+ghost use Rattle.kc_text.specs.Meaning.{IsText, texts_cells_end};
 ghost use Rattle.kc_text_run.specs.Picking.{AddsPicks, AreTextsOf, IsForTwo, IsFresh, IsPastOfPicks, first_half, second_half};
 
 use crate::picking::read_picks;
@@ -26,7 +26,7 @@ fn read_half<R: Wait>(
     requires pool { length pool.now ≡ texts.now.texts }
     requires place { place < texts.now.places }
     requires picks { All (IsText texts.now) picks.now }
-    requires within { cells_end texts.now ≤ store.now.locations }
+    requires within { texts_cells_end texts.now ≤ store.now.locations }
     requires same { length lines.items ≡ length picks.now }
     ensures of { result.0.of ≡ store.now }
     ensures number { result.0.number ≡ caller.number }

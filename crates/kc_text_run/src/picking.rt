@@ -2,7 +2,7 @@
 
 ghost use Rattle.std.specs.Prelude.{◌≡◌, ◌≤◌, ◌<◌, [], ◌∷◌, length, All};
 ghost use Rattle.kc_store.specs.Knows.{Remembers};
-ghost use Rattle.kc_text.specs.Meaning.{IsText, cells_end};
+ghost use Rattle.kc_text.specs.Meaning.{IsText, texts_cells_end};
 ghost use Rattle.kc_text.specs.Pool.{IsTextOf};
 ghost use Rattle.kc_text_run.specs.Picking.{AddsPicks, AreTextsOf};
 
@@ -27,7 +27,7 @@ fn read_pick<R: Wait>(
     requires pool { length pool.now ≡ texts.now.texts }
     requires place { place < texts.now.places }
     requires pick { IsText texts.now pick }
-    requires within { cells_end texts.now ≤ store.now.locations }
+    requires within { texts_cells_end texts.now ≤ store.now.locations }
     ensures text { IsTextOf pool.now pick result }
     ensures own { AddsPicks texts.now place (pick ∷ []) caller.old caller.new }
     ensures remembers { Remembers caller.old caller.new }
@@ -75,7 +75,7 @@ pub fn read_picks<R: Wait>(
     requires pool { length pool.now ≡ texts.now.texts }
     requires place { place < texts.now.places }
     requires picks { All (IsText texts.now) picks.now }
-    requires within { cells_end texts.now ≤ store.now.locations }
+    requires within { texts_cells_end texts.now ≤ store.now.locations }
     requires same { length lines.old ≡ length picks.now }
     ensures lines { AreTextsOf pool.now picks.now lines.new }
     ensures own { AddsPicks texts.now place picks.now caller.old caller.new }

@@ -2,15 +2,15 @@
 
 ghost use Rattle.std.specs.Prelude.{◌++◌};
 ghost use Rattle.std.specs.List.{flat_map};
-ghost use Rattle.kc_model.specs.Pen.{Prints, Puts};
-ghost use Rattle.kc_text_files.specs.Files.{line_of};
+ghost use Rattle.kc_model.specs.Pen.{Prints, PenPuts};
+ghost use Rattle.kc_text_files.specs.Files.{file_line};
 
 use kc_model::{Failed, Pen, Sink};
 use kc_text::Text;
 
 /// Writes these texts, and then those, each with a newline. After a failed write no further one is made.
 pub fn write_lines<K: Sink>(front: &[Text], back: &[Text], sink: &mut K) -> Result<(), Failed>
-    ensures { Prints K.written K.faults K.write_gives sink.old sink.new result (flat_map line_of front.now ++ flat_map line_of back.now) }
+    ensures { Prints K.written K.faults K.write_gives sink.old sink.new result (flat_map file_line front.now ++ flat_map file_line back.now) }
 {
     let mut pen = Pen::new(sink);
     put_lines(&mut pen, front);
@@ -19,7 +19,7 @@ pub fn write_lines<K: Sink>(front: &[Text], back: &[Text], sink: &mut K) -> Resu
 }
 
 fn put_lines<K: Sink>(pen: &mut Pen<K>, lines: &[Text])
-    ensures { Puts K.written K.faults K.write_gives pen.old pen.new (flat_map line_of lines.now) }
+    ensures { PenPuts K.written K.faults K.write_gives pen.old pen.new (flat_map file_line lines.now) }
 {
     for i in 0..lines.len() {
         put_line(pen, &lines[i]);
@@ -27,7 +27,7 @@ fn put_lines<K: Sink>(pen: &mut Pen<K>, lines: &[Text])
 }
 
 fn put_line<K: Sink>(pen: &mut Pen<K>, line: &Text)
-    ensures { Puts K.written K.faults K.write_gives pen.old pen.new (line_of line.now) }
+    ensures { PenPuts K.written K.faults K.write_gives pen.old pen.new (file_line line.now) }
 {
     pen.put(line.bytes());
     pen.put(b"\n");

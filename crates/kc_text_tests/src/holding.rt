@@ -1,7 +1,7 @@
 //! A reader that holds a text while another caller tries to bury it.
 
 ghost use Rattle.std.specs.Prelude.{◌≡◌, ◌≤◌};
-ghost use Rattle.kc_text.specs.Meaning.{IsFitAct, cells_end};
+ghost use Rattle.kc_text.specs.Meaning.{IsFitAct, texts_cells_end};
 
 use crate::library::{Library, open, reply};
 use kc_model::Reply;
@@ -20,7 +20,7 @@ fn reply_of<R: Wait>(
 ) -> Option<Reply>
     requires caller { caller.old.of ≡ store.now }
     requires fit { IsFitAct texts act }
-    requires within { cells_end texts ≤ store.now.locations }
+    requires within { texts_cells_end texts ≤ store.now.locations }
     ensures { caller.new.of ≡ store.now }
 {
     match store.commit(rt, caller, &TextOp { texts, act }) {
@@ -42,7 +42,7 @@ fn clear_and_bury<R: Wait>(
 ) -> (Caller, Option<Reply>)
     requires caller { caller.of ≡ store.now }
     requires size { (texts.places ≡ 2) × (texts.texts ≡ 2) }
-    requires within { cells_end texts ≤ store.now.locations }
+    requires within { texts_cells_end texts ≤ store.now.locations }
     ensures { result.0.of ≡ store.now }
 {
     reply_of(rt, store, &mut caller, texts, TextAct::Clear(0));

@@ -1,7 +1,7 @@
 //! Two callers over two places and two texts, red and green.
 
 ghost use Rattle.std.specs.Prelude.{◌≡◌, ◌≤◌, ◌<◌, length};
-ghost use Rattle.kc_text.specs.Meaning.{IsFitAct, IsText, cells_end};
+ghost use Rattle.kc_text.specs.Meaning.{IsFitAct, IsText, texts_cells_end};
 
 use kc_model::{Loc, Reply};
 use kc_store::{Caller, Outcome, Store};
@@ -17,7 +17,7 @@ pub(crate) struct Library {
     pub(crate) pool: TextPool,
     pub(crate) texts: Texts,
     ghost callers: { (first.of ≡ store) × (second.of ≡ store) },
-    ghost cells: { cells_end texts ≤ store.locations },
+    ghost cells: { texts_cells_end texts ≤ store.locations },
     ghost size: { (texts.places ≡ 2) × (texts.texts ≡ 2) },
     ghost pooled: { length pool ≡ 2 },
 }

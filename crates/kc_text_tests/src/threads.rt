@@ -1,7 +1,7 @@
 //! Four threads that read, name, clear and bury the same texts.
 
 ghost use Rattle.std.specs.Prelude.{◌≡◌, ◌≤◌, ◌<◌, ◌+◌, IfSome, length};
-ghost use Rattle.kc_text.specs.Meaning.{IsFitAct, cells_end};
+ghost use Rattle.kc_text.specs.Meaning.{IsFitAct, texts_cells_end};
 ghost use Rattle.kc_text_tests.specs.declared.threads.TheConstants.{PLACES, TEXTS};
 
 use kc_model::Loc;
@@ -112,7 +112,7 @@ struct Shared {
     store: Store,
     pool: TextPool,
     texts: Texts,
-    ghost cells: { cells_end texts ≤ store.locations },
+    ghost cells: { texts_cells_end texts ≤ store.locations },
     ghost size: { (texts.places ≡ PLACES) × (texts.texts ≡ TEXTS) },
     ghost pooled: { length pool ≡ TEXTS },
 }

@@ -30,8 +30,8 @@ use Rattle.kc_script_bundle.specs.declared.operation.Command.{Command}
 use Rattle.kc_script.proofs.Again.{limit_fits}
 use Rattle.kc_script_runs.proofs.Replayed.{opened_zero, run_list, run_made, run_of_order}
 use Rattle.kc_script_runs.proofs.Given.{run_by_threads}
-use Rattle.kc_script_runs.specs.Labels.{AreThreads}
-use Rattle.kc_script_runs.specs.Run.{IsRun, opening_store}
+use Rattle.kc_script_runs.specs.Labels.{ThreadsHaveRecords}
+use Rattle.kc_script_runs.specs.Run.{IsScriptRun, opening_store}
 use Rattle.kc_script_runs.specs.Threads.{AreRun, GivesOne}
 use Rattle.kc_top.proofs.Asks.{ask_fit, ask_within}
 use Rattle.kc_top.specs.Runnable.{IsRunnable}
@@ -97,14 +97,14 @@ module _ (b : Bundle) (values : List ℕ) (ts : List (Vec Command)) (can : IsRun
 
 -- ---- room
 
-pub lists_length : (j : ℕ) (threads : List (Vec Command)) (records : List RecordsValue) → AreThreads j (commands_of threads) (lists_of records) → length records ≡ length threads
+pub lists_length : (j : ℕ) (threads : List (Vec Command)) (records : List RecordsValue) → ThreadsHaveRecords j (commands_of threads) (lists_of records) → length records ≡ length threads
 lists_length j [] [] h = refl
 lists_length j [] (r ∷ rs) h = absurd h
 lists_length j (v ∷ vs) [] h = absurd h
 lists_length j (v ∷ vs) (r ∷ rs) h = ap suc (lists_length (j + 1) vs rs h.1)
 
 -- there are as many records as commands and ends
-pub records_counted : (j : ℕ) (threads : List (Vec Command)) (records : List RecordsValue) → AreThreads j (commands_of threads) (lists_of records) → records_in records ≡ sum_by (λ (v : Vec Command). length v.items + 1) threads
+pub records_counted : (j : ℕ) (threads : List (Vec Command)) (records : List RecordsValue) → ThreadsHaveRecords j (commands_of threads) (lists_of records) → records_in records ≡ sum_by (λ (v : Vec Command). length v.items + 1) threads
 records_counted j [] [] h = refl
 records_counted j [] (r ∷ rs) h = absurd h
 records_counted j (v ∷ vs) [] h = absurd h
@@ -124,7 +124,7 @@ pub record Settles (script : Script) (threads : List (Vec Command)) (cells : Lis
   pub legal : (places : List Place) × (last : Store) × Legal (footprint_at (lists_of vs)) (λ _. 0) (store_of cells) places last
   pub lists : length vs ≡ length threads
   pub counted : records_in vs ≡ sum_by (λ (v : Vec Command). length v.items + 1) threads
-  pub run : (order : List Place) (last : Store) → IsCanonical (footprint_at (lists_of vs)) order → Legal (footprint_at (lists_of vs)) (λ _. 0) (store_of cells) order last → IsRun script (lists_of vs) order last
+  pub run : (order : List Place) (last : Store) → IsCanonical (footprint_at (lists_of vs)) order → Legal (footprint_at (lists_of vs)) (λ _. 0) (store_of cells) order last → IsScriptRun script (lists_of vs) order last
 
 pub settles : (b : Bundle) (cells : List Cell) (vs : List RecordsValue) → cells ≡ opened (opening_values (script_of b)) → HaveCommits (script_of b) (lists_of vs) → Settles (script_of b) b.threads.items cells vs
 settles b cells vs stored have =
@@ -144,7 +144,7 @@ settles b cells vs stored have =
     }
 
 -- a script without threads runs nothing
-pub run_of_none : (script : Script) → script.threads ≡ [] → IsRun script [] [] (opening_store script)
+pub run_of_none : (script : Script) → script.threads ≡ [] → IsScriptRun script [] [] (opening_store script)
 run_of_none script threads = record {
   threads = rw threads tt;
   canonical = record { stand = λ _. 0; versions = λ _. 0; chooses = (refl, refl); all = λ u k f h. absurd (cc) };

@@ -12,7 +12,7 @@ use Rattle.kc_top.specs.declared.command_line.Origin.{Origin}
 use Rattle.kc_top.specs.declared.command_line.Origin.TheVariants as origin
 use Rattle.std.specs.Option.{option_map}
 use Rattle.kc_script_lines.specs.Words.{number}
-use Rattle.kc_top.specs.Words.{storm_at, command_of, are_names, is_name, is_on_two, is_word, option_words, origin_of}
+use Rattle.kc_top.specs.Words.{storm_at, command_of, are_names, is_file_name, is_on_two, is_word, option_words, origin_of}
 
 same_setup : (j k : ℕ) → Some (origin.Files j) ≡ Some (origin.Files k) → j ≡ k
 same_setup j k e = cc e
@@ -45,7 +45,7 @@ few n false e = (grind (arith, nat_tests), grind (arith, nat_tests))
 -- a setup and 1 to 16 files are named
 pub files_named : (words : List (List ℕ)) (setup : ℕ) → origin_of words ≡ Some (origin.Files setup) → (2 ≤ length (drop setup words)) × (length (drop setup words) ≤ 17)
 files_named words setup e =
-    few (length (drop setup words)) (list_all is_name (drop setup words))
+    few (length (drop setup words)) (list_all is_file_name (drop setup words))
     (chosen (is_word words 1 (codes "run") && (length words == 2 + option_words words)) (is_word words 1 (codes "files")) (λ (i : ℕ). are_names (drop i words)) (2 + option_words words) setup (storm_at words (2 + option_words words)) (no_storm words (2 + option_words words) setup) e)
 
 -- words that ask for a run say from where
@@ -78,11 +78,11 @@ four n false false e = grind (arith, nat_tests)
 
 -- a check has four words
 pub check_words : (words : List (List ℕ)) → command_of words ≡ Some command.Check → length words ≡ 4
-check_words words e = four (length words) (is_word words 1 (codes "check")) (list_all is_name (drop 2 words)) (asks_check (is_on_two words (codes "check")) (is_on_two words (codes "texts")) (origin_of words) e)
+check_words words e = four (length words) (is_word words 1 (codes "check")) (list_all is_file_name (drop 2 words)) (asks_check (is_on_two words (codes "check")) (is_on_two words (codes "texts")) (origin_of words) e)
 
 -- and so has a run on texts
 pub texts_words : (words : List (List ℕ)) → command_of words ≡ Some command.Texts → length words ≡ 4
-texts_words words e = four (length words) (is_word words 1 (codes "texts")) (list_all is_name (drop 2 words)) (asks_texts (is_on_two words (codes "check")) (is_on_two words (codes "texts")) (origin_of words) e)
+texts_words words e = four (length words) (is_word words 1 (codes "texts")) (list_all is_file_name (drop 2 words)) (asks_texts (is_on_two words (codes "check")) (is_on_two words (codes "texts")) (origin_of words) e)
 
 -- so the names stand among them
 pub among_four : (words : List (String Global)) (i : ℕ) → length (map string_bytes words) ≡ 4 → i < 4 → i < length words

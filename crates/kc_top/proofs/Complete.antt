@@ -9,7 +9,7 @@ use Rattle.kc_script.specs.Spells.{Spells}
 use Rattle.kc_script_bundle.specs.Script.{Script}
 use Rattle.kc_script.specs.declared.parser.TheConstants.{MOST_BYTES}
 use Rattle.kc_top.proofs.Causes.{both_rises, fails_rises, front_rises, one_command}
-use Rattle.kc_check.specs.Faults.{IsLegal}
+use Rattle.kc_check.specs.Faults.{IsLegalText}
 use Rattle.kc_check.specs.declared.error.CheckWhy.{CheckWhy}
 use Rattle.kc_script.proofs.Agree.{spells_one}
 use Rattle.kc_script_lines.specs.declared.fault.Why.{Why}
@@ -18,7 +18,7 @@ use Rattle.kc_top.specs.Checking.{IsRejected}
 use Rattle.kc_top.specs.Complete.{AreGivenBoth, IsGiven, IsInOrder}
 use Rattle.kc_top.specs.Reading.{BothRefuse, FetchedBoth}
 use Rattle.kc_top.specs.Words.{command_of}
-use Rattle.kc_top.specs.Statuses.{Says, SaysOf}
+use Rattle.kc_top.specs.Statuses.{StatusSays, SaysOf}
 use Rattle.kc_top.specs.declared.command_line.Command.{Command}
 use Rattle.kc_top.specs.declared.command_line.Command.TheVariants as command
 use Rattle.kc_top.specs.declared.command_line.Origin.TheVariants as origin
@@ -95,14 +95,14 @@ has_of (Some files) all name bytes e is = cc (e, is)
 
 module _ {F : Type 0} {told : F → Option (List (List ℕ × List ℕ))} {faults : F → ℕ} {sure : F → Bool} {gives : F → List ℕ → ℕ → Result (List ℕ) ShelfError → F → Type 0} {bundle text : List ℕ} {f f' : F} {line : ℕ} {why : CheckWhy} where
   -- a legal text that is told is not rejected
-  pub none_rejected : (given : AreGivenBoth (told f) bundle text) → IsLegal given.script given.text → IsRejected told faults sure gives bundle text f f' line why → ⊥
+  pub none_rejected : (given : AreGivenBoth (told f) bundle text) → IsLegalText given.script given.text → IsRejected told faults sure gives bundle text f f' line why → ⊥
   none_rejected given legal r =
       let both = r.reads.both in
       let has = subst (λ (t : Option (List (List ℕ × List ℕ))). Has t text r.text) both.first.kept both.second.has in
       let parsed = one_has (told f) given.all bundle given.bundle r.reads.bundle given.told (has_of (told f) given.all bundle given.bundle given.told given.has_bundle) both.first.has in
       let printed = one_has (told f) given.all text given.text r.text given.told (has_of (told f) given.all text given.text given.told given.has_text) has in
       let script = spells_one r.reads.bundle given.script r.script (subst (λ (x : List ℕ). Spells x given.script) parsed given.spells) r.reads.spells in
-      r.refuted (subst (λ (x : Script). IsLegal x r.text) script (subst (λ (x : List ℕ). IsLegal given.script x) printed legal))
+      r.refuted (subst (λ (x : Script). IsLegalText x r.text) script (subst (λ (x : List ℕ). IsLegalText given.script x) printed legal))
 
 module _ {F : Type 0} {told : F → Option (List (List ℕ × List ℕ))} {faults : F → ℕ} {sure : F → Bool} {gives : F → List ℕ → ℕ → Result (List ℕ) ShelfError → F → Type 0} {limit : ℕ} {f f' : F} {one_name other_name : List ℕ} where
   -- neither of two files passes its limit where both are within it
@@ -183,7 +183,7 @@ module _ {S F K : Type 0} (left : S → Option (List ℕ)) (source_faults : S �
 
   -- so words that ask for it
   pub says_in_order : (c : Command) (e : Status) → command_of words ≡ Some c → IsGiven words c (left s) (files f) → (Rises (source_faults s) (source_faults s') → ⊥) → (Rises (shelf_faults f) (shelf_faults f') → ⊥) → (Rises (sink_faults k) (sink_faults k') → ⊥)
-      → Says left source_faults read_gives files shelf_faults sure fetch_gives written sink_faults write_gives words s s' f f' k k' served e → IsInOrder c e
+      → StatusSays left source_faults read_gives files shelf_faults sure fetch_gives written sink_faults write_gives words s s' f f' k k' served e → IsInOrder c e
   says_in_order c status.Usage asked given source shelf sink h = absurd (cc (asked, h.0))
   says_in_order c status.Done asked given source shelf sink h = meant c status.Done asked given source shelf sink h
   says_in_order c status.WriteFault asked given source shelf sink h = meant c status.WriteFault asked given source shelf sink h

@@ -8,7 +8,7 @@ use Rattle.kc_model.specs.Outside.{Took}
 use Rattle.kc_model.specs.declared.outside.Failed.{Failed}
 use Rattle.kc_model.specs.declared.outside.ShelfError.{ShelfError}
 use Rattle.kc_script_lines.specs.declared.fault.Why.{Why}
-use Rattle.kc_text_files.specs.Files.{file_lines, files_fault, in_parts, line_of, picked, picks_fault, texts_fault, written_of}
+use Rattle.kc_text_files.specs.Files.{file_lines, files_fault, in_parts, file_line, picked_lines, picks_fault, texts_fault, written_of}
 use Rattle.kc_text_run.proofs.Written.{are_picked}
 use Rattle.kc_text_run.specs.Picking.{AreTextsOf, WereReadByTwo}
 use Rattle.kc_top.specs.Picking.{AreRead, PicksEnd, PicksRefuse, WritesPicked}
@@ -65,15 +65,15 @@ module _ {F : Type 0} (files : F → Option (List (List ℕ × List ℕ))) (faul
       picks = read.picks_file;
       reads = read.reads;
       serves = sym read.the_picks ∙ none;
-      shows = subst (λ (ks : List ℕ). Took written sink_faults write_gives k (picked (file_lines read.texts_file) ks) k) (sym none ∙ read.the_picks) (took_none k);
+      shows = subst (λ (ks : List ℕ). Took written sink_faults write_gives k (picked_lines (file_lines read.texts_file) ks) k) (sym none ∙ read.the_picks) (took_none k);
     }
 
     -- the lines of the texts that were read are what is to be written
-    lines_are : (front back : List (List ℕ)) → AreTextsOf texts picks (front ++ back) → flat_map line_of front ++ flat_map line_of back ≡ written_of read.texts_file read.picks_file
-    lines_are front back h = are_picked texts picks front back h ∙ ap (λ (ts : List (List ℕ)). picked ts picks) read.the_texts ∙ ap (λ (ks : List ℕ). picked (file_lines read.texts_file) ks) read.the_picks
+    lines_are : (front back : List (List ℕ)) → AreTextsOf texts picks (front ++ back) → flat_map file_line front ++ flat_map file_line back ≡ written_of read.texts_file read.picks_file
+    lines_are front back h = are_picked texts picks front back h ∙ ap (λ (ts : List (List ℕ)). picked_lines ts picks) read.the_texts ∙ ap (λ (ks : List ℕ). picked_lines (file_lines read.texts_file) ks) read.the_picks
 
     pub some_end : (Written : K → List ℕ → K → Type 0) (k k' : K) (front back : List (List ℕ)) (past : _) → 0 < length picks → AreTextsOf texts picks (front ++ back) → WereReadByTwo (length texts) picks past
-        → Written k (flat_map line_of front ++ flat_map line_of back) k' → WritesPicked files faults sure gives texts_name picks_name Written f f' k k' (serving.Kcas past)
+        → Written k (flat_map file_line front ++ flat_map file_line back) k' → WritesPicked files faults sure gives texts_name picks_name Written f f' k k' (serving.Kcas past)
     some_end Written k k' front back past some are by_two wrote = record {
       texts = read.texts_file;
       picks = read.picks_file;

@@ -1,6 +1,6 @@
 -- What a check of a text comes to.
 use Rattle.std.specs.Prelude.{◌≡◌, ◌⊎◌, ℕ, Bool, List, Option, Result}
-use Rattle.kc_check.specs.Faults.{Fails, IsLegal}
+use Rattle.kc_check.specs.Faults.{CheckFails, IsLegalText}
 use Rattle.kc_check.specs.declared.check.TheConstants.{MOST_TEXT}
 use Rattle.kc_check.specs.declared.error.CheckWhy.{CheckWhy}
 use Rattle.kc_model.specs.declared.outside.ShelfError.{ShelfError}
@@ -15,7 +15,7 @@ use Rattle.kc_top.specs.declared.status.Status.TheVariants as status
 
 module _ {F : Type 0} (files : F → Option (List (List ℕ × List ℕ))) (faults : F → ℕ) (sure : F → Bool) (gives : F → List ℕ → ℕ → Result (List ℕ) ShelfError → F → Type 0) (bundle_name text_name : List ℕ) where
   -- both files were read, the first spells this script, and the second is this text
-  pub record ReadsText (f f' : F) (script : Script) (text : List ℕ) : Type 0 where
+  pub record ReadsBothFiles (f f' : F) (script : Script) (text : List ℕ) : Type 0 where
     pub bundle : List ℕ
     pub both : FetchedBoth files faults sure gives MOST_TEXT bundle_name text_name f bundle text f'
     pub spells : Spells bundle script
@@ -31,16 +31,16 @@ module _ {F : Type 0} (files : F → Option (List (List ℕ × List ℕ))) (faul
   pub record IsAccepted (f f' : F) : Type 0 where
     pub script : Script
     pub text : List ℕ
-    pub reads : ReadsText f f' script text
-    pub legal : IsLegal script text
+    pub reads : ReadsBothFiles f f' script text
+    pub legal : IsLegalText script text
 
   -- this is the first test that the text fails, at this line, and it is that of no run of the script
   pub record IsRejected (f f' : F) (line : ℕ) (why : CheckWhy) : Type 0 where
     pub script : Script
     pub text : List ℕ
-    pub reads : ReadsText f f' script text
-    pub fails : Fails script text line why
-    pub refuted : IsLegal script text → ⊥
+    pub reads : ReadsBothFiles f f' script text
+    pub fails : CheckFails script text line why
+    pub refuted : IsLegalText script text → ⊥
 
   -- why no text was accepted: a file was not read, the first spells no script, the text fails a test; or memory ran out, also behind both files
   abbrev pub CheckRefuses : F → F → Status → Type 0

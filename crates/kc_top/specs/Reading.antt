@@ -108,10 +108,10 @@ module _ {F : Type 0} (files : F → Option (List (List ℕ × List ℕ))) (faul
 module _ {S F : Type 0} (left : S → Option (List ℕ)) (source_faults : S → ℕ) (read_gives : S → List ℕ → Result ℕ Failed → List ℕ → S → Type 0)
     (files : F → Option (List (List ℕ × List ℕ))) (shelf_faults : F → ℕ) (sure : F → Bool) (fetch_gives : F → List ℕ → ℕ → Result (List ℕ) ShelfError → F → Type 0) (words : List (List ℕ)) where
   -- what is read spells this script, and the rest of the outside is as it was; a storm reads nothing
-  abbrev pub Reads : Origin → S → S → F → F → Script → Type 0
-  Reads origin.Source s s' f f' script = SourceSpells left source_faults read_gives s s' script × (f' ≡ f)
-  Reads (origin.Storm n) s s' f f' script = (script ≡ storm_script n) × (s' ≡ s) × (f' ≡ f)
-  Reads (origin.Files setup) s s' f f' script = FilesSpell files shelf_faults sure fetch_gives (drop setup words) f f' script × (s' ≡ s)
+  abbrev pub ReadsScript : Origin → S → S → F → F → Script → Type 0
+  ReadsScript origin.Source s s' f f' script = SourceSpells left source_faults read_gives s s' script × (f' ≡ f)
+  ReadsScript (origin.Storm n) s s' f f' script = (script ≡ storm_script n) × (s' ≡ s) × (f' ≡ f)
+  ReadsScript (origin.Files setup) s s' f f' script = FilesSpell files shelf_faults sure fetch_gives (drop setup words) f f' script × (s' ≡ s)
 
   -- why it gave no script
   abbrev pub Refuses : Origin → S → S → F → F → Status → Type 0

@@ -5,7 +5,7 @@ use Rattle.kc_model.specs.Outside.{Took, TookFront}
 use Rattle.kc_model.specs.declared.outside.Failed.{Failed}
 use Rattle.kc_model.specs.declared.outside.ShelfError.{ShelfError}
 use Rattle.kc_script_bundle.specs.Script.{Script}
-use Rattle.kc_script_runs.specs.Run.{IsText}
+use Rattle.kc_script_runs.specs.Run.{IsRunText}
 use Rattle.kc_script_storm.specs.Storm.{storm_script}
 use Rattle.kc_script_storm.specs.Summary.{IsSummary}
 use Rattle.kc_top.specs.declared.command_line.Command.{Command}
@@ -18,10 +18,10 @@ use Rattle.kc_top.specs.declared.served.Served.TheVariants as serving
 use Rattle.kc_top.specs.declared.status.Status.{Status}
 use Rattle.kc_top.specs.declared.status.Status.TheVariants as status
 use Rattle.kc_top.specs.Checking.{CheckRefuses, IsAccepted}
-use Rattle.kc_top.specs.Reading.{Reads, Refuses}
+use Rattle.kc_top.specs.Reading.{ReadsScript, Refuses}
 use Rattle.kc_top.specs.Served.{IsServed}
 use Rattle.kc_top.specs.Picking.{PicksEnd}
-use Rattle.kc_top.specs.Words.{bundle_name, command_of, picks_name, store_of, text_name, texts_name}
+use Rattle.kc_top.specs.Words.{bundle_name, command_of, picks_name, store_named, text_name, texts_name}
 
 -- a storm's script is that of its number
 abbrev pub IsItsScript : Origin → Script → Type 0
@@ -31,8 +31,8 @@ IsItsScript (origin.Storm n) script = script ≡ storm_script n
 
 -- what is written of a run of the script: of a storm its summary, and else its text
 abbrev pub IsShown : Origin → Script → List (List Record) → List ℕ → Type 0
-IsShown origin.Source script records text = IsText script records text
-IsShown (origin.Files setup) script records text = IsText script records text
+IsShown origin.Source script records text = IsRunText script records text
+IsShown (origin.Files setup) script records text = IsRunText script records text
 IsShown (origin.Storm n) script records text = IsSummary n records text
 
 module _ {K : Type 0} (written : K → Option (List ℕ)) (faults : K → ℕ) (gives : K → List ℕ → Result ℕ Failed → K → Type 0) where
@@ -67,18 +67,18 @@ module _ {K : Type 0} (written : K → Option (List ℕ)) (faults : K → ℕ) (
   CheckEnds files shelf_faults sure fetch_gives bundle text f f' k k' other = CheckRefuses files shelf_faults sure fetch_gives bundle text f f' other × (k' ≡ k)
 
   -- what comes of a run that is shown, or whose showing fails
-  abbrev pub Shows : StoreName → Origin → Script → Served → K → K → Result (Unit {0}) Failed → Type 0
-  Shows store origin script served k k' (Ok u) = ShowsRun store origin script served k k'
-  Shows store origin script served k k' (Err e) = ShowsPart store origin script served k k'
+  abbrev pub ShowsOrFails : StoreName → Origin → Script → Served → K → K → Result (Unit {0}) Failed → Type 0
+  ShowsOrFails store origin script served k k' (Ok u) = ShowsRun store origin script served k k'
+  ShowsOrFails store origin script served k k' (Err e) = ShowsPart store origin script served k k'
 
 module _ {S F K : Type 0} (left : S → Option (List ℕ)) (source_faults : S → ℕ) (read_gives : S → List ℕ → Result ℕ Failed → List ℕ → S → Type 0)
     (files : F → Option (List (List ℕ × List ℕ))) (shelf_faults : F → ℕ) (sure : F → Bool) (fetch_gives : F → List ℕ → ℕ → Result (List ℕ) ShelfError → F → Type 0)
     (written : K → Option (List ℕ)) (sink_faults : K → ℕ) (write_gives : K → List ℕ → Result ℕ Failed → K → Type 0) (words : List (List ℕ)) where
   -- a script was read, and run on the store that the words name
-  pub record Ran (Shown : StoreName → Origin → Script → Served → K → K → Type 0) (origin : Origin) (s s' : S) (f f' : F) (k k' : K) (served : Served) : Type 0 where
+  pub record ScriptRan (Shown : StoreName → Origin → Script → Served → K → K → Type 0) (origin : Origin) (s s' : S) (f f' : F) (k k' : K) (served : Served) : Type 0 where
     pub script : Script
-    pub reads : Reads left source_faults read_gives files shelf_faults sure fetch_gives words origin s s' f f' script
-    pub shows : Shown (store_of words) origin script served k k'
+    pub reads : ReadsScript left source_faults read_gives files shelf_faults sure fetch_gives words origin s s' f f' script
+    pub shows : Shown (store_named words) origin script served k k'
 
   -- no script was read, or no memory was found to run it; nothing was written, and nothing served
   pub record RanNone (origin : Origin) (s s' : S) (f f' : F) (k k' : K) (served : Served) (status : Status) : Type 0 where
@@ -88,8 +88,8 @@ module _ {S F K : Type 0} (left : S → Option (List ℕ)) (source_faults : S �
 
   -- what a status says of a script that was to be run
   abbrev pub RunSays : Origin → S → S → F → F → K → K → Served → Status → Type 0
-  RunSays origin s s' f f' k k' served status.Done = Ran (ShowsRun written sink_faults write_gives) origin s s' f f' k k' served
-  RunSays origin s s' f f' k k' served status.WriteFault = Ran (ShowsPart written sink_faults write_gives) origin s s' f f' k k' served
+  RunSays origin s s' f f' k k' served status.Done = ScriptRan (ShowsRun written sink_faults write_gives) origin s s' f f' k k' served
+  RunSays origin s s' f f' k k' served status.WriteFault = ScriptRan (ShowsPart written sink_faults write_gives) origin s s' f f' k k' served
   RunSays origin s s' f f' k k' served status.ReadFault = RanNone origin s s' f f' k k' served status.ReadFault
   RunSays origin s s' f f' k k' served status.TooLong = RanNone origin s s' f f' k k' served status.TooLong
   RunSays origin s s' f f' k k' served status.NoMemory = RanNone origin s s' f f' k k' served status.NoMemory
@@ -116,6 +116,6 @@ module _ {S F K : Type 0} (left : S → Option (List ℕ)) (source_faults : S �
 
   -- What a status says of the words, of the source, the shelf and the sink before and behind the call, and of what was served.
   -- It is Usage exactly where the words are no command, and then all is as it was.
-  abbrev pub Says : S → S → F → F → K → K → Served → Status → Type 0
-  Says s s' f f' k k' served status.Usage = (command_of words ≡ None) × (s' ≡ s) × (f' ≡ f) × (k' ≡ k) × (served ≡ serving.Nothing)
-  Says s s' f f' k k' served status = (command : Command) × (command_of words ≡ Some command) × SaysOf command s s' f f' k k' served status
+  abbrev pub StatusSays : S → S → F → F → K → K → Served → Status → Type 0
+  StatusSays s s' f f' k k' served status.Usage = (command_of words ≡ None) × (s' ≡ s) × (f' ≡ f) × (k' ≡ k) × (served ≡ serving.Nothing)
+  StatusSays s s' f f' k k' served status = (command : Command) × (command_of words ≡ Some command) × SaysOf command s s' f f' k k' served status

@@ -27,17 +27,17 @@ option_words words =
     else 0
 
 -- the store that the option names; without one it is the lock-free one
-abbrev pub store_of : List (List ℕ) → StoreName
-store_of words = if is_word words 2 (codes "--store=lock") || (is_word words 2 (codes "--store") && is_word words 3 (codes "lock")) then store.Lock else store.Kcas
+abbrev pub store_named : List (List ℕ) → StoreName
+store_named words = if is_word words 2 (codes "--store=lock") || (is_word words 2 (codes "--store") && is_word words 3 (codes "lock")) then store.Lock else store.Kcas
 
 -- a file's name isn't empty, and doesn't begin with `-`
-abbrev pub is_name : List ℕ → Bool
-is_name [] = false
-is_name (byte ∷ bytes) = not (byte == 45)
+abbrev pub is_file_name : List ℕ → Bool
+is_file_name [] = false
+is_file_name (byte ∷ bytes) = not (byte == 45)
 
 -- a setup, and a file for each thread
 abbrev pub are_names : List (List ℕ) → Bool
-are_names words = nat_le 2 (length words) && nat_le (length words) (1 + MOST_THREADS) && list_all is_name words
+are_names words = nat_le 2 (length words) && nat_le (length words) (1 + MOST_THREADS) && list_all is_file_name words
 
 -- the storm of the number that the word at this place spells, where it is the last one
 abbrev pub storm_at : List (List ℕ) → ℕ → Option Origin
@@ -52,7 +52,7 @@ origin_of words =
 
 -- the command of this name, and just two names behind it
 abbrev pub is_on_two : List (List ℕ) → List ℕ → Bool
-is_on_two words name = is_word words 1 name && (length words == 4) && list_all is_name (drop 2 words)
+is_on_two words name = is_word words 1 name && (length words == 4) && list_all is_file_name (drop 2 words)
 
 -- the file of the bundle, and that of the text, that the words of a check name
 abbrev pub bundle_name : List (List ℕ) → List ℕ

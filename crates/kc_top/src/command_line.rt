@@ -3,7 +3,7 @@
 ghost use Rattle.std.specs.Prelude.{◌≡◌, ◌≤◌, ◌<◌, ◌+◌, ◌&&◌, ◌==◌, true, length, drop, map, codes};
 ghost use Rattle.std.specs.List.{list_all};
 ghost use Rattle.std.specs.String.{string_bytes};
-ghost use Rattle.kc_top.specs.Words.{are_names, command_of, is_name, is_on_two, is_word, option_words, origin_of, store_of, storm_at};
+ghost use Rattle.kc_top.specs.Words.{are_names, command_of, is_file_name, is_on_two, is_word, option_words, origin_of, store_named, storm_at};
 
 use kc_script_bundle::MOST_THREADS;
 use kc_script_lines::number_of;
@@ -74,7 +74,7 @@ fn origin_of(words: &[String]) -> Option<Origin>
 
 /// The store that the words' store option names; the lock-free one where they have none.
 pub fn store_of(words: &[String]) -> StoreName
-    ensures { result ≡ store_of (map string_bytes words.now) }
+    ensures { result ≡ store_named (map string_bytes words.now) }
 {
     if is_word(words, 2, "--store=lock")
         || is_word(words, 2, "--store") && is_word(words, 3, "lock")
@@ -150,7 +150,7 @@ fn are_names(words: &[String]) -> bool
 }
 
 fn all_are_names(words: &[String]) -> bool
-    ensures { result ≡ list_all is_name (map string_bytes words.now) }
+    ensures { result ≡ list_all is_file_name (map string_bytes words.now) }
 {
     for word in words {
         if !is_name(word.as_str()) {
@@ -161,7 +161,7 @@ fn all_are_names(words: &[String]) -> bool
 }
 
 fn is_name(word: &str) -> bool
-    ensures { result ≡ is_name word.now }
+    ensures { result ≡ is_file_name word.now }
 {
     matches!(word.as_bytes().first(), Some(byte) if *byte != b'-')
 }

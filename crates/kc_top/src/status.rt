@@ -1,5 +1,5 @@
 ghost use Rattle.std.specs.Prelude.{◌≡◌, ◌≤◌, length};
-ghost use Rattle.kc_top.specs.Numbers.{number};
+ghost use Rattle.kc_top.specs.Numbers.{status_number};
 ghost use Rattle.kc_top.specs.Lines.{status_line, test_words};
 ghost use Rattle.kc_top.specs.declared.status.Status.TheVariants as status;
 
@@ -40,7 +40,7 @@ pub enum Status {
 impl Status {
     /// The number with which the program exits.
     pub fn number(&self) -> u8
-        ensures { result ≡ number self.now }
+        ensures { result ≡ status_number self.now }
     {
         match self {
             Status::Done => 0,

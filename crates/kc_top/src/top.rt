@@ -4,8 +4,8 @@ ghost use Rattle.std.specs.Prelude.{◌≡◌, Some, map, IfOk, IfErr};
 ghost use Rattle.std.specs.String.{string_bytes};
 ghost use Rattle.kc_script_bundle.specs.Script.{script_of};
 ghost use Rattle.kc_top.specs.Words.{origin_of};
-ghost use Rattle.kc_top.specs.Reading.{Reads, Refuses};
-ghost use Rattle.kc_top.specs.Statuses.{RunSays, Says};
+ghost use Rattle.kc_top.specs.Reading.{ReadsScript, Refuses};
+ghost use Rattle.kc_top.specs.Statuses.{RunSays, StatusSays};
 
 use crate::checking::check;
 use crate::command_line::{Command, Origin, command_of, store_of};
@@ -39,7 +39,7 @@ pub fn kcas_main<S: Source, F: Shelf, K: Sink, G: Gate, R: Threads + Wait + Sync
     sink: &mut K,
     gate: &G,
 ) -> (Status, Served)
-    ensures { Says S.left S.faults S.read_gives F.files F.faults F.sure F.fetch_gives K.written K.faults K.write_gives (map string_bytes words.now) source.old source.new shelf.old shelf.new sink.old sink.new result.1 result.0 }
+    ensures { StatusSays S.left S.faults S.read_gives F.files F.faults F.sure F.fetch_gives K.written K.faults K.write_gives (map string_bytes words.now) source.old source.new shelf.old shelf.new sink.old sink.new result.1 result.0 }
 {
     match command_of(words) {
         None => (Status::Usage, Served::Nothing),
@@ -86,7 +86,7 @@ fn read_bundle<S: Source, F: Shelf>(
     shelf: &mut F,
 ) -> Result<Bundle, Status>
     requires { origin_of (map string_bytes words.now) ≡ Some origin }
-    ensures reads { IfOk result (λ bundle. Reads S.left S.faults S.read_gives F.files F.faults F.sure F.fetch_gives (map string_bytes words.now) origin source.old source.new shelf.old shelf.new (script_of bundle)) }
+    ensures reads { IfOk result (λ bundle. ReadsScript S.left S.faults S.read_gives F.files F.faults F.sure F.fetch_gives (map string_bytes words.now) origin source.old source.new shelf.old shelf.new (script_of bundle)) }
     ensures refuses { IfErr result (Refuses S.left S.faults S.read_gives F.files F.faults F.sure F.fetch_gives (map string_bytes words.now) origin source.old source.new shelf.old shelf.new) }
 {
     match origin {

@@ -13,26 +13,26 @@ use Rattle.kc_cache.specs.Meaning.{cache_meaning, cache_end}
 use Rattle.kc_uses.specs.declared.finish_job.FinishJob.{FinishJob}
 
 -- the result of a job is its square
-abbrev pub result_of : ℕ → ℕ
-result_of job = (job * job) % 2 ^ 32
+abbrev pub job_result : ℕ → ℕ
+job_result job = (job * job) % 2 ^ 32
 
 abbrev pub next_job : FinishJob → QueueOp
 next_job f = record { queue = f.jobs; act = queue.DeqWait }
 
 abbrev pub kept_result : FinishJob → ℕ → CacheOp
-kept_result f job = record { cache = f.results; act = cache.CPut job (result_of job) }
+kept_result f job = record { cache = f.results; act = cache.CPut job (job_result job) }
 
-abbrev pub number_of : Reply → Option ℕ
-number_of (reply.Value n) = Some n
-number_of a = None
+abbrev pub number_of_reply : Reply → Option ℕ
+number_of_reply (reply.Value n) = Some n
+number_of_reply a = None
 
 -- the result of a job is kept; any other reply is the whole's
-abbrev pub kept : FinishJob → Reply → Option ℕ → Meaning
-kept f a (Some job) = cache_meaning (kept_result f job)
-kept f a None = meaning (replies a)
+abbrev pub job_kept : FinishJob → Reply → Option ℕ → Meaning
+job_kept f a (Some job) = cache_meaning (kept_result f job)
+job_kept f a None = meaning (replies a)
 
 abbrev pub finish_meaning : FinishJob → Meaning
-finish_meaning f = then_meaning (queue_meaning (next_job f)) (λ a. kept f a (number_of a))
+finish_meaning f = then_meaning (queue_meaning (next_job f)) (λ a. job_kept f a (number_of_reply a))
 
 abbrev pub finish_end : FinishJob → ℕ
 finish_end f = max (queue_end (next_job f)) (cache_end (kept_result f 0))

@@ -10,19 +10,19 @@ use Rattle.kc_uses.specs.declared.finish_or_stop.FinishOrStop.{FinishOrStop}
 use Rattle.kc_xt.specs.Meaning.{Meaning, then_meaning}
 use Rattle.kc_xt.specs.Program.{meaning, replies}
 
-abbrev pub flag_of : FinishOrStop → LocOp
-flag_of f = loc.Get f.closed
+abbrev pub closed_flag_of : FinishOrStop → LocOp
+closed_flag_of f = loc.Get f.closed
 
-abbrev pub is_open : Reply → Bool
-is_open (reply.Value n) = n == 0
-is_open a = false
+abbrev pub says_open : Reply → Bool
+says_open (reply.Value n) = n == 0
+says_open a = false
 
 -- what comes behind the flag
 abbrev pub unless_closed : FinishOrStop → Bool → Meaning
 unless_closed f b = if b then finish_meaning f.finish else meaning (replies reply.Empty)
 
 abbrev pub stopping_meaning : FinishOrStop → Meaning
-stopping_meaning f = then_meaning (loc_meaning (flag_of f)) (λ a. unless_closed f (is_open a))
+stopping_meaning f = then_meaning (loc_meaning (closed_flag_of f)) (λ a. unless_closed f (says_open a))
 
 abbrev pub stopping_end : FinishOrStop → ℕ
-stopping_end f = max (loc_end (flag_of f)) (finish_end f.finish)
+stopping_end f = max (loc_end (closed_flag_of f)) (finish_end f.finish)

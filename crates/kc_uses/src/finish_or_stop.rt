@@ -2,7 +2,7 @@
 
 ghost use Rattle.std.specs.Prelude.{◌≡◌};
 ghost use Rattle.kc_loc.specs.Meaning.{LocIsFit};
-ghost use Rattle.kc_uses.specs.Stopping.{flag_of, is_open, stopping_end, stopping_meaning};
+ghost use Rattle.kc_uses.specs.Stopping.{closed_flag_of, says_open, stopping_end, stopping_meaning};
 
 use crate::finish_job::FinishJob;
 use crate::server::Server;
@@ -31,14 +31,14 @@ impl FinishOrStop {
     }
 
     fn flag(&self) -> LocOp
-        ensures { result ≡ flag_of self.now }
+        ensures { result ≡ closed_flag_of self.now }
     {
         LocOp::Get(self.closed)
     }
 }
 
 fn is_open(flag: &Reply) -> bool
-    ensures { result ≡ is_open flag.now }
+    ensures { result ≡ says_open flag.now }
 {
     match flag {
         Reply::Value(value) => *value == 0,
@@ -49,7 +49,7 @@ fn is_open(flag: &Reply) -> bool
 impl Transact for FinishOrStop {
     ghost meaning = { stopping_meaning };
 
-    ghost is_fit = { λ f. LocIsFit (flag_of f) };
+    ghost is_fit = { λ f. LocIsFit (closed_flag_of f) };
 
     ghost end = { stopping_end };
 

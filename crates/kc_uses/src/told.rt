@@ -1,7 +1,7 @@
 //! What jobs say: texts that threads share. A worker reads one where it lies, and buries it when nothing names it any more.
 
 ghost use Rattle.std.specs.Prelude.{◌≡◌, ◌≤◌, IfOk, length};
-ghost use Rattle.kc_text.specs.Meaning.{IsFitAct, cells_end};
+ghost use Rattle.kc_text.specs.Meaning.{IsFitAct, texts_cells_end};
 
 use kc_model::{Loc, Reply};
 use kc_store::{Caller, Outcome, Store};
@@ -92,7 +92,7 @@ fn run<R: Wait>(
 ) -> Option<Reply>
     requires caller { caller.old.of ≡ store.now }
     requires fit { IsFitAct texts act }
-    requires within { cells_end texts ≤ store.now.locations }
+    requires within { texts_cells_end texts ≤ store.now.locations }
     ensures { caller.new.of ≡ store.now }
 {
     match store.commit(rt, caller, &TextOp { texts, act }) {

@@ -117,12 +117,12 @@ pub record Filled (ls : List Line) (ps : List Put) (f : Footprint) : Type 0 wher
   pub made : IsWellMade f
 
 -- what a run that was answered so, and left these lines, comes to
-abbrev pub Settles : Tried → Result Reply Stop → List Line → Footprint → Footprint → Type 0
-Settles (tried.Done a) r ls before f = (r ≡ Ok a) × Filled ls (puts ls) f
-Settles tried.Later r ls before f = (r ≡ Err stop.Retry) × Filled ls [] f
-Settles tried.TooLarge r ls before f = (r ≡ Err stop.TooLarge) × Filled ls [] f
-Settles tried.Busy r ls before f = (r ≡ Err stop.Busy) × (f ≡ before)
-Settles (tried.Worn loc) r ls before f = ((a : Reply) × (r ≡ Ok a)) × (worn_of ls ≡ Some loc) × Filled ls [] f
+abbrev pub SettlesRun : Tried → Result Reply Stop → List Line → Footprint → Footprint → Type 0
+SettlesRun (tried.Done a) r ls before f = (r ≡ Ok a) × Filled ls (puts ls) f
+SettlesRun tried.Later r ls before f = (r ≡ Err stop.Retry) × Filled ls [] f
+SettlesRun tried.TooLarge r ls before f = (r ≡ Err stop.TooLarge) × Filled ls [] f
+SettlesRun tried.Busy r ls before f = (r ≡ Err stop.Busy) × (f ≡ before)
+SettlesRun (tried.Worn loc) r ls before f = ((a : Reply) × (r ≡ Ok a)) × (worn_of ls ≡ Some loc) × Filled ls [] f
 
 -- where no look was given up, the footprint is filled with just these lines
 abbrev pub IsOfLines : Tried → List Line → Footprint → Type 0

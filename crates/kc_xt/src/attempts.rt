@@ -8,7 +8,7 @@ ghost use Rattle.kc_model.specs.Store.{Store, store_of, Finds};
 ghost use Rattle.kc_model.specs.declared.reply.Reply.{Reply};
 ghost use Rattle.kc_xt.specs.declared.attempts.Tried.TheVariants as tried;
 ghost use Rattle.kc_xt.specs.declared.attempts.Tried.{Tried as Answered};
-ghost use Rattle.kc_xt.specs.Commit.{Came, IsOfLines, PutsWhereDone, Looked, Settles, tried_of};
+ghost use Rattle.kc_xt.specs.Commit.{Came, IsOfLines, PutsWhereDone, Looked, SettlesRun, tried_of};
 ghost use Rattle.kc_xt.specs.Meaning.{Meaning, limited};
 ghost use Rattle.kc_xt.specs.Peeks.{PlainLooks};
 
@@ -74,7 +74,7 @@ fn settle<P: Peek>(
     reply: &mut Reply,
     footprint: &mut Footprint,
 ) -> Went
-    ensures settles { Settles (tried_of result reply.new) answer xt.old.lines footprint.old footprint.new }
+    ensures settles { SettlesRun (tried_of result reply.new) answer xt.old.lines footprint.old footprint.new }
     ensures lines { IsOfLines (tried_of result reply.new) xt.new.lines footprint.new }
     ensures log { xt.new ≡ record xt.old { lines = xt.new.lines } }
 {
@@ -90,7 +90,7 @@ fn settle<P: Peek>(
 // Of a run that replied.
 #[inline(always)]
 fn settle_done<P: Peek>(xt: &mut Xt<P>, footprint: &mut Footprint) -> Went
-    ensures settles { (a : Reply) → Settles (tried_of result a) (Ok a) xt.old.lines footprint.old footprint.new }
+    ensures settles { (a : Reply) → SettlesRun (tried_of result a) (Ok a) xt.old.lines footprint.old footprint.new }
     ensures lines { (a : Reply) → IsOfLines (tried_of result a) xt.new.lines footprint.new }
     ensures log { xt.new ≡ record xt.old { lines = xt.new.lines } }
 {
@@ -109,7 +109,7 @@ fn settle_done<P: Peek>(xt: &mut Xt<P>, footprint: &mut Footprint) -> Went
 // Of a run that stopped.
 #[inline(never)]
 fn settle_stopped<P: Peek>(xt: &mut Xt<P>, stop: Stop, footprint: &mut Footprint) -> Went
-    ensures settles { (a : Reply) → Settles (tried_of result a) (Err stop) xt.old.lines footprint.old footprint.new }
+    ensures settles { (a : Reply) → SettlesRun (tried_of result a) (Err stop) xt.old.lines footprint.old footprint.new }
     ensures lines { (a : Reply) → IsOfLines (tried_of result a) xt.new.lines footprint.new }
     ensures log { xt.new ≡ record xt.old { lines = xt.new.lines } }
 {

@@ -4,7 +4,7 @@ use Rattle.std.specs.Io.KnownBytes.{ReadConsumes, WriteAppends}
 use Rattle.kc_model.specs.declared.outside.Failed.{Failed}
 use Rattle.kc_model.specs.declared.outside.ShelfError.{ShelfError}
 use Rattle.kc_model.specs.declared.outside.ShelfError.TheVariants as error
-use Rattle.kc_top.specs.Statuses.{Says}
+use Rattle.kc_top.specs.Statuses.{StatusSays}
 use Rattle.kc_top.specs.declared.served.Served.{Served}
 use Rattle.kc_top.specs.declared.status.Status.{Status}
 use Rattle.kcas.specs.declared.ends.StdinSource.{StdinSource}
@@ -29,5 +29,5 @@ CountsFault before name limit (Ok bytes) after = after ≡ before
 -- the status is what the top call says of these words, and of the three ends as they were and as they are left, whatever was served
 abbrev pub RunsOn : {R H W : Type 0} → (R → Option (List ℕ)) → (W → Option (List ℕ)) → List (List ℕ) → StdinSource R → StdinSource R → DirShelf H → DirShelf H → StdoutSink W → StdoutSink W → Status → Type 0
 RunsOn {R} {H} {W} remaining contents words source source' shelf shelf' sink sink' status = (served : Served)
-    × Says (λ (s : StdinSource R). None) (λ (s : StdinSource R). s.faults) (PassesRead remaining) (λ (f : DirShelf H). None) (λ (f : DirShelf H). f.faults) (λ (f : DirShelf H). false) CountsFault (λ (k : StdoutSink W). None) (λ (k : StdoutSink W). k.faults) (PassesWrite contents)
+    × StatusSays (λ (s : StdinSource R). None) (λ (s : StdinSource R). s.faults) (PassesRead remaining) (λ (f : DirShelf H). None) (λ (f : DirShelf H). f.faults) (λ (f : DirShelf H). false) CountsFault (λ (k : StdoutSink W). None) (λ (k : StdoutSink W). k.faults) (PassesWrite contents)
     words source source' shelf shelf' sink sink' served status

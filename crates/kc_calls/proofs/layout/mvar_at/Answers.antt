@@ -1,11 +1,11 @@
 use Rattle.std.proofs.Common.{sym, ap, arith}
 use Rattle.kc_model.specs.declared.footprint.Loc.{Loc}
 use Rattle.kc_calls.proofs.Placing.{unlaid, mvar_laid}
-use Rattle.kc_calls.specs.Structures.{mvar_at}
+use Rattle.kc_calls.specs.Structures.{call_mvar_at}
 use Rattle.kc_calls.proofs.layout.mvar_at.Goals as goal
 
 pub returns-then-not-has_room : goal.returns-then-not-has_room
-unfolding mvar_at
+unfolding call_mvar_at
 returns-then-not-has_room c = sym (unlaid _ _ _ _ c.has_room.ensures c.if-not-has_room.true (omega arith))
 
 pub returns : goal.returns

@@ -1,19 +1,19 @@
 use Rattle.std.proofs.Common.{sym, ap, ◌∙◌, arith}
 use Rattle.kc_model.specs.declared.footprint.Loc.{Loc}
 use Rattle.kc_calls.proofs.Placing.{unsized, size, sized_is, unlaid, table_laid}
-use Rattle.kc_calls.specs.Structures.{table_at}
+use Rattle.kc_calls.specs.Structures.{call_table_at}
 use Rattle.kc_calls.proofs.layout.table_at.Goals as goal
 
 pub returns-then-not-is_size : goal.returns-then-not-is_size
-unfolding table_at
+unfolding call_table_at
 returns-then-not-is_size c = sym (unsized _ _ _ _ c.is_size.ensures c.if-not-is_size.true)
 
 pub returns-then-not-is_size-2 : goal.returns-then-not-is_size-2
-unfolding table_at
+unfolding call_table_at
 returns-then-not-is_size-2 c = sym (sized_is _ _ _ _ c.is_size.ensures c.if-not-is_size.false ∙ unsized _ _ _ _ c.is_size-2.ensures c.if-not-is_size-2.true)
 
 pub returns-then-not-has_room : goal.returns-then-not-has_room
-unfolding table_at
+unfolding call_table_at
 returns-then-not-has_room c = sym (sized_is _ _ _ _ c.is_size.ensures c.if-not-is_size.false ∙ sized_is _ _ _ _ c.is_size-2.ensures c.if-not-is_size-2.false ∙ unlaid _ _ _ _ c.has_room.ensures c.if-not-has_room.true (omega arith))
 
 pub returns : goal.returns

@@ -2,7 +2,7 @@ use Rattle.std.proofs.Common.{◌<◌, ◌≤◌, length, refl, sym, ◌∙◌, 
 use Rattle.std.proofs.lemmas.List.{drop-set-lt, length-set}
 use Rattle.std.specs.Prelude.{Option}
 use Rattle.kc_calls.proofs.Filling.{filled_more, filled_first}
-use Rattle.kc_calls.specs.Structures.{Opens}
+use Rattle.kc_calls.specs.Structures.{OpensStructure}
 use Rattle.kc_calls.specs.Told.{places_from}
 use Rattle.kc_script_bundle.specs.Script.{cells}
 use Rattle.kc_script_bundle.specs.State.{opening_value}
@@ -24,6 +24,6 @@ loop-i-preserved c =
 
 pub returns : goal.returns
 returns c =
-    let P : Option Object → Type 0 = λ o. Opens o c.args.values.now true c.loop-i.values in
+    let P : Option Object → Type 0 = λ o. OpensStructure o c.args.values.now true c.loop-i.values in
     let fits : cells c.in-Some.structure ≤ length c.args.values.now = omega (arith, c.cells.ensures, c.if-values-cells.false) in
     subst P (sym (sym c.structure.ensures ∙ c.in-Some.is)) (fits, filled_first (opening_value c.in-Some.structure) c.loop-i.values c.args.values.now c.loop-i.i (cells c.in-Some.structure) (omega (arith, c.loop-i.auto.i-end, c.loop-i-test.false, c.cells-i-end.ensures)) c.loop-i.invariant.done c.loop-i.invariant.rest)

@@ -8,7 +8,7 @@ use Rattle.kc_check.proofs.Forming.{if_err}
 use Rattle.kc_check.proofs.Padded.{as_many}
 use Rattle.kc_check.proofs.Opened.{commands_few, limit_of_it, objects_few, said_of, sound_of, spelled_names, threads_few, values_few}
 use Rattle.kc_check.specs.Faults.{FailsFor}
-use Rattle.kc_check.specs.Judged.{IsSound, parts_of}
+use Rattle.kc_check.specs.Judged.{IsReadyToReplay, parts_of}
 use Rattle.kc_check.specs.Parts.{Parts, places_in}
 use Rattle.kc_check.specs.Replays.{HaveRoom, commands_of}
 use Rattle.kc_check.proofs.Replays.{commands_long}
@@ -60,7 +60,7 @@ judge-requires-clause-sound c =
     let (bytes, spells) = c.requires.spelled in
     let b = c.args.bundle.now in
     let room = subst (λ vs. HaveRoom b.limit 1 (commands_of vs) c.in_ok-records.records.items) c.deref-2.ensures.value c.in_ok-records.ensures.room in
-    subst (IsSound (script_of b) b.threads.items c.in_ok-store.store) (sym c.deref_mut.ensures.value) (sound_of b bytes spells c.deref.result.now c.in_ok-store.store c.in_ok-records.records.items (c.deref.ensures.value ∙ c.in_ok-values.ensures) c.in_ok-store.ensures room c.in_ok-records.ensures.empty)
+    subst (IsReadyToReplay (script_of b) b.threads.items c.in_ok-store.store) (sym c.deref_mut.ensures.value) (sound_of b bytes spells c.deref.result.now c.in_ok-store.store c.in_ok-records.records.items (c.deref.ensures.value ∙ c.in_ok-values.ensures) c.in_ok-store.ensures room c.in_ok-records.ensures.empty)
 
 pub judge-requires-clause-said : goal.judge-requires-clause-said
 judge-requires-clause-said c =

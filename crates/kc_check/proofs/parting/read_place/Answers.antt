@@ -1,7 +1,7 @@
 use Rattle.std.proofs.Common.{◌≡◌, subst}
 use Rattle.kc_check.proofs.Forming.{no_other_first, none_first}
 use Rattle.kc_check.proofs.Parted.{few_of, lacks_fault}
-use Rattle.kc_check.specs.Forms.{Names, place}
+use Rattle.kc_check.specs.Forms.{NamesPlace, place}
 use Rattle.kc_check.specs.Replays.{commands_of}
 use Rattle.kc_check.proofs.Placed.{named_is_line}
 use Rattle.kc_check.proofs.parting.read_place.Goals as goal
@@ -15,4 +15,4 @@ returns-in-None-clause-lacks c = lacks_fault (commands_of c.args.threads.now) pl
     (λ first rest named e.
     let line = c.in-Some.line.now in
     let same : first ≡ line = no_other_first c.args.rest.now.bytes.now line c.next_line.new.self.bytes.now first rest c.in-Some.ensures.line (named_is_line (commands_of c.args.threads.now) first (few_of c.args.threads.now c.requires.few c.requires.short) named) c.in-Some.ensures.next e in
-    c.in-None.ensures.none (subst (Names (commands_of c.args.threads.now)) same named))
+    c.in-None.ensures.none (subst (NamesPlace (commands_of c.args.threads.now)) same named))

@@ -6,7 +6,7 @@ use Rattle.kc_script_bundle.specs.declared.object.Object.{Object}
 use Rattle.kc_script_bundle.specs.declared.operation.Command.{Command}
 use Rattle.kc_check.proofs.Forming.{if_err}
 use Rattle.kc_check.proofs.Parted.{HeldTo, held_fails, held_more, held_none, held_shapes, held_whole}
-use Rattle.kc_check.specs.Laid.{Lacks}
+use Rattle.kc_check.specs.Laid.{ByteIsMissing}
 use Rattle.kc_check.specs.Reads.{FailsHowever}
 use Rattle.kc_check.specs.Walks.{now_of}
 use Rattle.kc_check.proofs.parting.read_state.Goals as goal
@@ -25,7 +25,7 @@ read_held-requires-clause-name c =
     let e : List ℕ × Object = named (c.in-Some.name.now, c.in-Some.field-0-1.now) in
     let at = entry_at named m.entries c.loop-i.i (c.in-Some.name.now, c.in-Some.field-0-1.now) c.in-Some.ensures.entry in
     let lt : c.loop-i.i < length (names_of m) = omega (arith, length-map m.entries named, c.len-i-end.ensures.len) in
-    subst (Lacks 10) (ap (λ (x : List ℕ × Object). x.0) at ∙ sym c.as_bytes.ensures.value) (c.requires.names c.loop-i.i e lt)
+    subst (ByteIsMissing 10) (ap (λ (x : List ℕ × Object). x.0) at ∙ sym c.as_bytes.ensures.value) (c.requires.names c.loop-i.i e lt)
 
 pub returns-in_err-line-clause-fails : goal.returns-in_err-line-clause-fails
 returns-in_err-line-clause-fails c =

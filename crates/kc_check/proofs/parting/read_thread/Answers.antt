@@ -2,7 +2,7 @@ use Rattle.std.proofs.Common.{◌≡◌, ℕ, length, refl, ◌-◌, ◌+◌, �
 use Rattle.kc_script_bundle.specs.declared.operation.Command.{Command}
 use Rattle.kc_check.proofs.Forming.{goes_more, if_err, reply_is_line, shapes_more, thread_lacks}
 use Rattle.kc_check.proofs.Starts.{end_on, line_again, starts_more}
-use Rattle.kc_check.specs.Forms.{Goes, IsReply, Shape, answers, thread_shapes}
+use Rattle.kc_check.specs.Forms.{GoesOverLines, IsReply, Shape, answers, thread_shapes}
 use Rattle.kc_check.specs.Reads.{FailsHowever}
 use Rattle.kc_check.specs.Walks.{lines_at}
 use Rattle.kc_check.proofs.parting.read_thread.Goals as goal
@@ -22,8 +22,8 @@ loop-k-preserved c =
       came = λ threads.
           let more = goes_more threads (thread_shapes c.args.thread 1 c.loop-k.k) (answers c.args.thread (1 + c.loop-k.k)) c.args.rest.now.bytes.now c.args.rest.now.number (lines_at c.args.text.now c.loop-k.starts.items) c.loop-k.rest.bytes.now c.loop-k.rest.number c.in_ok-read_reply.field-0.now c.read_reply.new.rest.bytes.now c.read_reply.new.rest.number
           (c.loop-k.invariant.came threads) says c.in_ok-read_reply.ensures.next c.in_ok-read_reply.ensures.number in
-          subst (λ (ks : List Shape). Goes threads ks c.args.rest.now.bytes.now c.args.rest.now.number (lines_at c.args.text.now c.push_reserved.new.self.items) c.read_reply.new.rest.bytes.now c.read_reply.new.rest.number) (sym (shapes_more c.args.thread 1 c.loop-k.k))
-          (subst (λ ls. Goes threads (thread_shapes c.args.thread 1 c.loop-k.k ++ answers c.args.thread (1 + c.loop-k.k) ∷ []) c.args.rest.now.bytes.now c.args.rest.now.number ls c.read_reply.new.rest.bytes.now c.read_reply.new.rest.number) (sym (ap (lines_at c.args.text.now) c.push_reserved.ensures.items ∙ starts_more c.args.text.now c.loop-k.starts.items start line again)) more);
+          subst (λ (ks : List Shape). GoesOverLines threads ks c.args.rest.now.bytes.now c.args.rest.now.number (lines_at c.args.text.now c.push_reserved.new.self.items) c.read_reply.new.rest.bytes.now c.read_reply.new.rest.number) (sym (shapes_more c.args.thread 1 c.loop-k.k))
+          (subst (λ ls. GoesOverLines threads (thread_shapes c.args.thread 1 c.loop-k.k ++ answers c.args.thread (1 + c.loop-k.k) ∷ []) c.args.rest.now.bytes.now c.args.rest.now.number ls c.read_reply.new.rest.bytes.now c.read_reply.new.rest.number) (sym (ap (lines_at c.args.text.now) c.push_reserved.ensures.items ∙ starts_more c.args.text.now c.loop-k.starts.items start line again)) more);
       room = c.in_ok-read_reply.ensures.room;
       long = (let a = c.push_reserved.ensures.len in let b = c.loop-k.invariant.long in omega (arith, a, b));
       space = (let a = c.push_reserved.ensures.capacity in let b = c.loop-k.invariant.space in omega (arith, a, b));
@@ -34,4 +34,4 @@ pub push_reserved-requires : goal.push_reserved-requires
 push_reserved-requires c = let a = c.loop-k.invariant.long in let b = c.loop-k.invariant.space in let lt = c.loop-k-test.true in omega (arith, a, b, lt)
 
 pub returns-clause-goes : goal.returns-clause-goes
-returns-clause-goes c = λ threads. subst (λ i. Goes threads (thread_shapes c.args.thread 1 i) c.args.rest.now.bytes.now c.args.rest.now.number (lines_at c.args.text.now c.loop-k.starts.items) c.loop-k.rest.bytes.now c.loop-k.rest.number) (let past = c.loop-k-test.false in let within = c.loop-k.auto.k-end in let e : c.loop-k.k ≡ c.args.commands = omega arith in e) (c.loop-k.invariant.came threads)
+returns-clause-goes c = λ threads. subst (λ i. GoesOverLines threads (thread_shapes c.args.thread 1 i) c.args.rest.now.bytes.now c.args.rest.now.number (lines_at c.args.text.now c.loop-k.starts.items) c.loop-k.rest.bytes.now c.loop-k.rest.number) (let past = c.loop-k-test.false in let within = c.loop-k.auto.k-end in let e : c.loop-k.k ≡ c.args.commands = omega arith in e) (c.loop-k.invariant.came threads)

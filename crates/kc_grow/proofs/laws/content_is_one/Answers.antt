@@ -1,6 +1,6 @@
 use Rattle.kc_chain.proofs.Formed.{pairs_within, pairs_rise}
 use Rattle.kc_grow.proofs.Opened.{grow_same, grow_one, grow_shows}
-use Rattle.kc_grow.specs.Meaning.{bucket_of, chains_of}
+use Rattle.kc_grow.specs.Meaning.{grown_bucket, grown_chains}
 use Rattle.kc_grow.proofs.laws.content_is_one.Goals as goal
 
 pub returns-clause-own : goal.returns-clause-own
@@ -13,7 +13,7 @@ pub returns-clause-shown : goal.returns-clause-shown
 returns-clause-shown c = λ g m pairs G. grow_shows g m pairs G
 
 pub returns-clause-rising : goal.returns-clause-rising
-returns-clause-rising c = λ g m pairs G. pairs_rise (chains_of g G.buckets) (bucket_of G.buckets) m pairs G.stands
+returns-clause-rising c = λ g m pairs G. pairs_rise (grown_chains g G.buckets) (grown_bucket G.buckets) m pairs G.stands
 
 pub returns-clause-within : goal.returns-clause-within
-returns-clause-within c = λ g m pairs G. pairs_within (chains_of g G.buckets) (bucket_of G.buckets) m pairs G.stands
+returns-clause-within c = λ g m pairs G. pairs_within (grown_chains g G.buckets) (grown_bucket G.buckets) m pairs G.stands

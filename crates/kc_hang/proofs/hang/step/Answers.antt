@@ -1,6 +1,6 @@
 use Rattle.std.proofs.Common.{◌≡◌, ◌∙◌, ap, sym, subst}
 use Rattle.kc_hang.proofs.Steps.{step_begins, step_comes, step_further}
-use Rattle.kc_hang.specs.Hanging.{Shows, state_at, stepping}
+use Rattle.kc_hang.specs.Hanging.{ShowsHang, state_at, stepping}
 use Rattle.kc_hang.specs.HangView.{HangView}
 use Rattle.kc_table.specs.kc_table_moves.Views.{Stepped}
 use Rattle.kc_hang.proofs.hang.step.Goals as goal
@@ -20,5 +20,5 @@ returns-clause-shows c =
     let same : c.hang.inside.state ≡ c.args.hang.now.state = ap (λ (h : HangView). h.state) (c.hang.view_is ∙ c.start.ensures.hang) in
     let e : c.state_at-hang-inside.result ≡ state_at c.args.hang.now.state c.step.new.seat.seat = c.state_at-hang-inside.ensures ∙ ap (λ x. state_at x c.step.new.seat.seat) same in
     let s : Stepped (stepping c.args.hang.now c.args.seat.now) c.step.new.seat = subst (λ x. Stepped x c.step.new.seat) c.start.ensures.seat c.step.ensures.stepped in
-    subst (λ r. Shows c.args.hang.now.reads c.args.hang.now.state r c.step.new.seat) (sym e)
+    subst (λ r. ShowsHang c.args.hang.now.reads c.args.hang.now.state r c.step.new.seat) (sym e)
     (step_comes c.args.hang.now c.args.seat.now c.step.new.seat c.requires.under_way c.requires.may s)

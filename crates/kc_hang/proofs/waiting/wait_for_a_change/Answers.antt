@@ -1,9 +1,9 @@
 use Rattle.std.proofs.Common.{◌≡◌, false, ap, subst, ◌∙◌}
 use Rattle.kc_hang.proofs.Waits.{hangs_at_once, hangs_signalled}
-use Rattle.kc_hang.specs.Hanging.{Shows, task_of}
+use Rattle.kc_hang.specs.Hanging.{ShowsHang, task_of}
 use Rattle.kc_hang.specs.HangView.{HangView}
 use Rattle.kc_hang.specs.declared.hang_state.HangState.TheVariants.{Hung, Leaving}
-use Rattle.kc_table_laws.specs.Tasks.{Does}
+use Rattle.kc_table_laws.specs.Tasks.{DoesTask}
 use Rattle.kc_hang.proofs.waiting.wait_for_a_change.Goals as goal
 
 pub returns-in-Hung-clause-hangs : goal.returns-in-Hung-clause-hangs
@@ -16,11 +16,11 @@ returns-in-Hung-clause-hangs g c =
     let left : c.leave.new.self ≡ record { reads = reads; state = Leaving; begun = false } =
     c.leave.ensures ∙ ap (λ (h : HangView). record h { state = Leaving; begun = false }) c.in-Hung.ensures.hang ∙ ap (λ (h : HangView). record h { state = Leaving; begun = false }) c.on-hang.ensures in
     (hangs_signalled reads v last.new.seat a b last.result
-    (subst (λ (h : HangView). Does v (task_of h) a) c.on-hang.ensures c.in-Hung.ensures.does)
-    (subst (λ (h : HangView). Shows h.reads h.state Hung a) c.on-hang.ensures c.in-Hung.ensures.shows)
+    (subst (λ (h : HangView). DoesTask v (task_of h) a) c.on-hang.ensures c.in-Hung.ensures.does)
+    (subst (λ (h : HangView). ShowsHang h.reads h.state Hung a) c.on-hang.ensures c.in-Hung.ensures.shows)
     c.park.ensures.signalled last.ensures.ended
-    (subst (λ (h : HangView). Does b (task_of h) last.new.seat) left last.ensures.does)
-    (subst (λ (h : HangView). Shows h.reads h.state last.result last.new.seat) left last.ensures.shows)).0
+    (subst (λ (h : HangView). DoesTask b (task_of h) last.new.seat) left last.ensures.does)
+    (subst (λ (h : HangView). ShowsHang h.reads h.state last.result last.new.seat) left last.ensures.shows)).0
 
 pub returns-in_default : goal.returns-in_default
 returns-in_default g c =
@@ -28,6 +28,6 @@ returns-in_default g c =
     let v = c.args.seat.now in
     let r = c.step_on in
     let h = hangs_at_once reads v r.new.seat r.result c.in_default.not-Hung r.ensures.ended
-    (subst (λ (h : HangView). Does v (task_of h) r.new.seat) c.on-hang.ensures r.ensures.does)
-    (subst (λ (h : HangView). Shows h.reads h.state r.result r.new.seat) c.on-hang.ensures r.ensures.shows) in
+    (subst (λ (h : HangView). DoesTask v (task_of h) r.new.seat) c.on-hang.ensures r.ensures.does)
+    (subst (λ (h : HangView). ShowsHang h.reads h.state r.result r.new.seat) c.on-hang.ensures r.ensures.shows) in
     record { hangs = h.0; free = h.1 }

@@ -4,8 +4,8 @@ use Rattle.kc_history.proofs.Passing.{puts_below}
 use Rattle.kc_history.proofs.Placed.{set_more, in_list, few_records, reads_fit, reads_stand, reads_counted, puts_room, next_counted, next_passes}
 use Rattle.kc_history.proofs.Totals.{same_record}
 use Rattle.kc_history.specs.Counts.{Forgets}
-use Rattle.kc_history.specs.Order.{more, raised}
-use Rattle.kc_history.specs.Records.{print_of}
+use Rattle.kc_history.specs.Order.{one_record_more, raised}
+use Rattle.kc_history.specs.Records.{record_print}
 use Rattle.kc_model.specs.declared.footprint.Footprint.{Footprint}
 use Rattle.kc_history.proofs.placing.let_stand.Goals as goal
 
@@ -29,7 +29,7 @@ forget_reads-requires-clause-below c =
     let next = c.args.next.now in
     let versions = c.args.versions.now in
     let left = c.args.left.now in
-    let f = print_of c.index-records-thread.result.items (slice_index next t) in
+    let f = record_print c.index-records-thread.result.items (slice_index next t) in
     let well = c.requires.made in
     let counted = c.requires.counted in
     let passes = next_passes vs next versions c.args.starts.now left t c.index-records-thread.result c.requires.passes.0 c.requires.thread c.index-records-thread.is c.requires.passes.1 in
@@ -42,7 +42,7 @@ forget_reads-requires-clause-stands c =
     let next = c.args.next.now in
     let versions = c.args.versions.now in
     let left = c.args.left.now in
-    let f = print_of c.index-records-thread.result.items (slice_index next t) in
+    let f = record_print c.index-records-thread.result.items (slice_index next t) in
     let well = c.requires.made in
     let counted = c.requires.counted in
     let passes = next_passes vs next versions c.args.starts.now left t c.index-records-thread.result c.requires.passes.0 c.requires.thread c.index-records-thread.is c.requires.passes.1 in
@@ -55,7 +55,7 @@ forget_reads-requires-clause-counted c =
     let next = c.args.next.now in
     let versions = c.args.versions.now in
     let left = c.args.left.now in
-    let f = print_of c.index-records-thread.result.items (slice_index next t) in
+    let f = record_print c.index-records-thread.result.items (slice_index next t) in
     let well = c.requires.made in
     let counted = c.requires.counted in
     let passes = next_passes vs next versions c.args.starts.now left t c.index-records-thread.result c.requires.passes.0 c.requires.thread c.index-records-thread.is c.requires.passes.1 in
@@ -68,7 +68,7 @@ raise-requires-clause-below c =
     let next = c.args.next.now in
     let versions = c.args.versions.now in
     let left = c.args.left.now in
-    let f = print_of c.index-records-thread.result.items (slice_index next t) in
+    let f = record_print c.index-records-thread.result.items (slice_index next t) in
     let well = c.requires.made in
     let counted = c.requires.counted in
     let passes = next_passes vs next versions c.args.starts.now left t c.index-records-thread.result c.requires.passes.0 c.requires.thread c.index-records-thread.is c.requires.passes.1 in
@@ -81,7 +81,7 @@ raise-requires-clause-rise c =
     let next = c.args.next.now in
     let versions = c.args.versions.now in
     let left = c.args.left.now in
-    let f = print_of c.index-records-thread.result.items (slice_index next t) in
+    let f = record_print c.index-records-thread.result.items (slice_index next t) in
     let well = c.requires.made in
     let counted = c.requires.counted in
     let passes = next_passes vs next versions c.args.starts.now left t c.index-records-thread.result c.requires.passes.0 c.requires.thread c.index-records-thread.is c.requires.passes.1 in
@@ -94,7 +94,7 @@ raise-requires-clause-room c =
     let next = c.args.next.now in
     let versions = c.args.versions.now in
     let left = c.args.left.now in
-    let f = print_of c.index-records-thread.result.items (slice_index next t) in
+    let f = record_print c.index-records-thread.result.items (slice_index next t) in
     let well = c.requires.made in
     let counted = c.requires.counted in
     let passes = next_passes vs next versions c.args.starts.now left t c.index-records-thread.result c.requires.passes.0 c.requires.thread c.index-records-thread.is c.requires.passes.1 in
@@ -110,7 +110,7 @@ returns-clause-versions c g is =
     let next = c.args.next.now in
     let versions = c.args.versions.now in
     let left = c.args.left.now in
-    let f = print_of c.index-records-thread.result.items (slice_index next t) in
+    let f = record_print c.index-records-thread.result.items (slice_index next t) in
     let well = c.requires.made in
     let counted = c.requires.counted in
     let passes = next_passes vs next versions c.args.starts.now left t c.index-records-thread.result c.requires.passes.0 c.requires.thread c.index-records-thread.is c.requires.passes.1 in
@@ -125,7 +125,7 @@ returns-clause-left c g is =
     let next = c.args.next.now in
     let versions = c.args.versions.now in
     let left = c.args.left.now in
-    let f = print_of c.index-records-thread.result.items (slice_index next t) in
+    let f = record_print c.index-records-thread.result.items (slice_index next t) in
     let well = c.requires.made in
     let counted = c.requires.counted in
     let passes = next_passes vs next versions c.args.starts.now left t c.index-records-thread.result c.requires.passes.0 c.requires.thread c.index-records-thread.is c.requires.passes.1 in
@@ -139,11 +139,11 @@ returns-clause-counted c =
     let next = c.args.next.now in
     let versions = c.args.versions.now in
     let left = c.args.left.now in
-    let f = print_of c.index-records-thread.result.items (slice_index next t) in
+    let f = record_print c.index-records-thread.result.items (slice_index next t) in
     let well = c.requires.made in
     let counted = c.requires.counted in
     let passes = next_passes vs next versions c.args.starts.now left t c.index-records-thread.result c.requires.passes.0 c.requires.thread c.index-records-thread.is c.requires.passes.1 in
-    let e : slice_index (slice_set next t (slice_index next t + 1)) ≡ more t (slice_index next) = set_more next t (let a = c.requires.thread in let b = c.requires.threads in omega arith) in
+    let e : slice_index (slice_set next t (slice_index next t + 1)) ≡ one_record_more t (slice_index next) = set_more next t (let a = c.requires.thread in let b = c.requires.threads in omega arith) in
     let raise = (rw c.puts.ensures.puts at c.raise.ensures) in
     let forget = (rw c.reads.ensures.reads at c.forget_reads.ensures) in
     next_counted vs next versions c.args.starts.now left well counted t f passes (slice_set next t (slice_index next t + 1)) c.raise.new.versions c.forget_reads.new.left e raise c.raise.auto.versions c.forget_reads.auto.left forget

@@ -3,7 +3,7 @@ use Rattle.std.proofs.Math.Path.{fun_ext}
 use Rattle.kc_history.proofs.Placed.{all_records, placed_more, tested_more, ends, made_still}
 use Rattle.kc_history.proofs.Totals.{unplaced_step}
 use Rattle.kc_history.specs.Counts.{sum_unplaced}
-use Rattle.kc_history.specs.Order.{more}
+use Rattle.kc_history.specs.Order.{one_record_more}
 use Rattle.kc_history.specs.Tested.{untested}
 use Rattle.kc_history.proofs.placing.place_all.Goals as goal
 
@@ -41,7 +41,7 @@ pub loop-thread-smaller : goal.loop-thread-smaller
 loop-thread-smaller c =
     let (t, (f, passes), lowest) = c.in-Some.ensures.ready in
     let a = unplaced_step (λ _. 1) c.args.records.now (slice_index c.loop-thread.next) c.in-Some.thread f passes.is in
-    let b : sum_unplaced (λ _. 1) c.args.records.now (slice_index c.let_stand.new.next) ≡ sum_unplaced (λ _. 1) c.args.records.now (more c.in-Some.thread (slice_index c.loop-thread.next)) = ap (sum_unplaced (λ _. 1) c.args.records.now) c.let_stand.ensures.next in
+    let b : sum_unplaced (λ _. 1) c.args.records.now (slice_index c.let_stand.new.next) ≡ sum_unplaced (λ _. 1) c.args.records.now (one_record_more c.in-Some.thread (slice_index c.loop-thread.next)) = ap (sum_unplaced (λ _. 1) c.args.records.now) c.let_stand.ensures.next in
     omega arith
 
 pub loop-thread-preserved : goal.loop-thread-preserved

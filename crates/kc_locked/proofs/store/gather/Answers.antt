@@ -1,7 +1,7 @@
 use Rattle.std.proofs.Common.{◌≡◌, arith, sym, ap, ◌∙◌, rules, subst, append_assoc, ◌++◌, ◌∷◌, []}
 use Rattle.std.specs.Prelude.{All}
 use Rattle.kc_locked.proofs.Ends.{arrives, gathers, all_at, comes_back}
-use Rattle.kc_locked.specs.Locked.{Matches}
+use Rattle.kc_locked.specs.Locked.{MatchesPasses}
 use Rattle.kc_locked.specs.Passes.{PassView}
 use Rattle.kc_locked.proofs.store.gather.Goals as goal
 
@@ -24,6 +24,6 @@ pub loop-pass-preserved : goal.loop-pass-preserved
 loop-pass-preserved c = record {
   table = search rules;
   all = append_assoc c.loop-pass.yielded (c.in-Some.pass ∷ []) c.next.new.self.rest.items ∙ (ap (λ l. c.loop-pass.yielded ++ l) (sym c.in-Some.ensures.steps.0) ∙ c.loop-pass.invariant.all);
-  matches = subst (λ m. Matches m.0.parts (c.loop-pass.yielded ++ c.in-Some.pass ∷ [])) (sym c.join_seat.ensures.2)
+  matches = subst (λ m. MatchesPasses m.0.parts (c.loop-pass.yielded ++ c.in-Some.pass ∷ [])) (sym c.join_seat.ensures.2)
       (comes_back c.pass.inside.token.me _ _ _ c.loop-pass.keeper.me.0.parts c.loop-pass.yielded c.in-Some.pass c.pass.invariant.0 (sym (ap (λ v. v.caller) c.pass.view_is)) (sym (ap (λ v. v.own) c.pass.view_is)) c.loop-pass.invariant.matches);
 }

@@ -1,7 +1,7 @@
 use Rattle.std.proofs.Common.{refl, [], ◌∷◌}
 use Rattle.kc_machine_answers.specs.kc_machine_steps.declared.task.Task.TheVariants as task
 use Rattle.kc_machine_answers.specs.kc_machine_steps.declared.task.Told.TheVariants as told
-use Rattle.kc_machine_answers.specs.kc_machine.Machine.{State, put, run}
+use Rattle.kc_machine_answers.specs.kc_machine.Machine.{State, put_at_index, run}
 use Rattle.kc_machine_progress.specs.Attempts.{makes, none, look, once}
 use Rattle.kc_machine_progress.specs.Worked.{one}
 use Rattle.kc_machine_answers.specs.kc_machine_traces.Claims.{steps}
@@ -10,7 +10,7 @@ use Rattle.kc_machine_answers.specs.kc_machine_steps.Lines.{next_among}
 use Rattle.kc_machine_progress.proofs.worked.an_attempt_by_hand.Goals as goal
 
 pub returns : goal.returns
-unfolding put next_among steps
+unfolding put_at_index next_among steps
 returns c =
     let m : State = run one [] in
     let u : State = makes m 0 (task.Look (record { 0 = 1 })) 1 in

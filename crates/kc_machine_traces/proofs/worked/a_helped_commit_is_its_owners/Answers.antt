@@ -1,5 +1,5 @@
 use Rattle.std.proofs.Common.{refl}
-use Rattle.kc_machine_invariants.specs.kc_machine.Machine.{put}
+use Rattle.kc_machine_invariants.specs.kc_machine.Machine.{put_at_index}
 use Rattle.kc_machine_traces.proofs.ByHand.{helped_history, helped_has_cause}
 use Rattle.kc_machine_traces.specs.Claims.{steps}
 use Rattle.kc_machine_invariants.specs.kc_machine_steps.Lines.{next_among}
@@ -9,7 +9,7 @@ pub returns-clause-history : goal.returns-clause-history
 returns-clause-history c = helped_history
 
 pub returns-clause-told : goal.returns-clause-told
-unfolding put next_among steps
+unfolding put_at_index next_among steps
 returns-clause-told c = refl
 
 pub returns-clause-cause : goal.returns-clause-cause

@@ -5,7 +5,7 @@ use Rattle.kc_model.specs.declared.footprint.TheConstants.{MOST}
 use Rattle.kc_run.proofs.Jobs.{can_row, row_is}
 use Rattle.kc_script_runs.proofs.Limits.{command_few, end_few, few_lines}
 use Rattle.kc_run.proofs.Threads.{is_answered, ran_end, ran_first, ran_more}
-use Rattle.kc_run.specs.Jobs.{Ran, Ready, row_at}
+use Rattle.kc_run.specs.Jobs.{PassRan, JobReady, row_at}
 use Rattle.kc_run.specs.Run.{CanRun}
 use Rattle.kc_run.specs.Shared.{commit_gives}
 use Rattle.kc_script_bundle.specs.Meaning.{end_meaning}
@@ -18,7 +18,7 @@ pub loop-i-init : goal.loop-i-init
 loop-i-init g c =
     let cs = c.as_slice-commands.result.now in
     let row : row_at c.args.threads.now c.args.place ≡ cs = row_is _ _ c.index-threads-place.result c.requires.thread.0 c.index-threads-place.is ∙ sym c.as_slice-commands.ensures.value in
-    let ready = subst (λ (l : List Command). Ready g.S.Shared.belongs g.S.Shared.number g.S.Shared.left g.S.Shared.own c.args.limit c.args.shared.now c.args.place l c.args.job.now) row c.requires.ready in
+    let ready = subst (λ (l : List Command). JobReady g.S.Shared.belongs g.S.Shared.number g.S.Shared.left g.S.Shared.own c.args.limit c.args.shared.now c.args.place l c.args.job.now) row c.requires.ready in
     ran_first c.args.limit (c.args.place + 1) (commit_gives g.S.Shared.enters_looks) g.S.Shared.belongs g.S.Shared.number g.S.Shared.left g.S.Shared.own g.S.Shared.opening c.args.shared.now cs c.args.job.now.pass c.args.job.now.records
     ready.may.belongs_to ready.may.share ready.may.fresh ready.room
 
@@ -70,4 +70,4 @@ returns g c =
     let past = c.loop-i-test.false in
     let ran = ran_end c.args.limit thread (commit_gives g.S.Shared.enters_looks) g.S.Shared.belongs g.S.Shared.number g.S.Shared.left g.S.Shared.own g.S.Shared.opening c.args.shared.now cs c.args.job.now.pass c.loop-i.job.pass c.commit_command-answer-2.new.pass c.loop-i.job.records c.add-2.new.self c.loop-i.i c.args.place r
     c.loop-i.invariant (omega (arith, past)) c.requires.ready.may.number_is refl e.pass e.own answered c.add-2.ensures.items refl refl in
-    subst (λ (l : List Command). Ran c.args.limit (commit_gives g.S.Shared.enters_looks) g.S.Shared.belongs g.S.Shared.number g.S.Shared.own g.S.Shared.opening c.args.shared.now c.args.place l c.commit_command-answer-2.new.pass c.add-2.new.self.items) (sym row) ran
+    subst (λ (l : List Command). PassRan c.args.limit (commit_gives g.S.Shared.enters_looks) g.S.Shared.belongs g.S.Shared.number g.S.Shared.own g.S.Shared.opening c.args.shared.now c.args.place l c.commit_command-answer-2.new.pass c.add-2.new.self.items) (sym row) ran

@@ -1,5 +1,5 @@
 use Rattle.std.proofs.Common.{◌≡◌, ◌+◌, ◌*◌, drop}
-use Rattle.kc_model.specs.Pen.{Owes, sheet}
+use Rattle.kc_model.specs.Pen.{SheetOwes, sheet}
 use Rattle.kc_script.specs.Canonical.{parts_lines, text_of_lines}
 use Rattle.kc_script_bundle.specs.Script.{names_of}
 use Rattle.kc_term.specs.Tree.{trees, tree_size, trees_size}
@@ -8,7 +8,7 @@ use Rattle.kc_script_printing.proofs.printing.+put.Given as goal
 abbrev pub invariant-put_parts-loop-part : goal.invariant-put_parts-loop-part
 invariant-put_parts-loop-part g l = record {
   same_sink : l.pen.sink.ghost_name ≡ l.fn.pen.sink.ghost_name;
-  owes : Owes g.K.Sink.written g.K.Sink.faults g.K.Sink.write_gives (sheet l.fn.pen) (sheet l.pen) (text_of_lines (parts_lines (names_of l.objects) (trees (drop l.part-index l.parts)))) (text_of_lines (parts_lines (names_of l.objects) (trees l.parts)));
+  owes : SheetOwes g.K.Sink.written g.K.Sink.faults g.K.Sink.write_gives (sheet l.fn.pen) (sheet l.pen) (text_of_lines (parts_lines (names_of l.objects) (trees (drop l.part-index l.parts)))) (text_of_lines (parts_lines (names_of l.objects) (trees l.parts)));
 }
 
 abbrev pub decreases-put_block : goal.decreases-put_block

@@ -2,7 +2,7 @@ use Rattle.std.proofs.Common.{◌≡◌, ◌∙◌, true, inl, inr, refl, sym, s
 use Rattle.kc_machine_steps.specs.declared.task.Task.TheVariants as task
 use Rattle.kc_machine_steps.specs.declared.task.Told.TheVariants as told
 use Rattle.kc_store.proofs.Ending.{ends_late, ends_straight, free, is_look, look_of_ends, looking_told, may_be_halted, runs}
-use Rattle.kc_store.specs.Works.{is_told_looking, told_by}
+use Rattle.kc_store.specs.Works.{is_told_looking, peek_told}
 use Rattle.kc_hang.proofs.kc_table_laws.Running.{ran_same}
 use Rattle.kc_store.proofs.looks.look_at.Goals as goal
 
@@ -43,7 +43,7 @@ returns-clause-looks c =
     inl (
       sym c.has_steps.ensures ∙ c.if-not-has_steps.false,
       ends_late t c.args.seat.now c.look.new.seat refl c.requires.idle c.requires.within c.look.ensures.ran
-          c.end_task.new.seat (told_by c.seen_by.result) c.args.budget (e.runs c.args.seat.now t) e.idle e.spent (sym c.told.ensures ∙ c.seen_by.ensures),
+          c.end_task.new.seat (peek_told c.seen_by.result) c.args.budget (e.runs c.args.seat.now t) e.idle e.spent (sym c.told.ensures ∙ c.seen_by.ensures),
     )
 
 pub returns-clause-look : goal.returns-clause-look
@@ -54,5 +54,5 @@ returns-clause-look c =
     (inl (
       sym c.has_steps.ensures ∙ c.if-not-has_steps.false,
       ends_late t c.args.seat.now c.look.new.seat refl c.requires.idle c.requires.within c.look.ensures.ran
-          c.end_task.new.seat (told_by c.seen_by.result) c.args.budget (e.runs c.args.seat.now t) e.idle e.spent (sym c.told.ensures ∙ c.seen_by.ensures),
+          c.end_task.new.seat (peek_told c.seen_by.result) c.args.budget (e.runs c.args.seat.now t) e.idle e.spent (sym c.told.ensures ∙ c.seen_by.ensures),
     ))

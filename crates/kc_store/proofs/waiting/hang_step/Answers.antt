@@ -1,7 +1,7 @@
 use Rattle.std.proofs.Common.{◌≡◌, ◌<◌, ap, subst, sym, true}
 use Rattle.std.specs.Prelude.{All}
 use Rattle.kc_hang.specs.HangView.{HangView}
-use Rattle.kc_hang.specs.Hanging.{MayStep, Shows, is_under_way, stepping}
+use Rattle.kc_hang.specs.Hanging.{MayStep, ShowsHang, is_under_way, stepping}
 use Rattle.kc_model.specs.declared.footprint.Seen.{Seen}
 use Rattle.kc_store.proofs.Boxed.{hanging_of, stands_so, worn_so}
 use Rattle.kc_store.proofs.Resting.{of_table}
@@ -41,5 +41,5 @@ invariant_of-hanging c =
     let on : HangView = record { reads = h.reads; state = h.state; begun = h.begun } in
     let way = subst (λ (x : HangingView). is_under_way x.state ≡ true) (sym (hanging_of c.hanging.inside.worn c.hanging.inside.reads c.hanging.inside.state c.hanging.inside.begun c.deref_mut.result.now c.hanging.inside.seat.value c.args.hanging.now c.deref_mut.ensures.value c.hanging.view_is)) c.requires.under_way in
     let s : Stepped (stepping on c.deref_mut.result.now) w = subst (λ (x : HangView). Stepped (stepping x c.deref_mut.result.now) w) c.at-hang.ensures c.step-state.ensures.step in
-    let shows = subst (λ (x : HangView). Shows x.reads x.state c.step-state.result w) c.at-hang.ensures c.step-state.ensures.shows in
+    let shows = subst (λ (x : HangView). ShowsHang x.reads x.state c.step-state.result w) c.at-hang.ensures c.step-state.ensures.shows in
     (step_stands h.state h.begun h.reads c.deref_mut.result.now w way (stands_so c.hanging.inside.state c.hanging.inside.begun c.hanging.inside.reads c.deref_mut.result.now c.hanging.inside.seat.value c.deref_mut.ensures.value c.hanging.invariant.0) s c.step-state.result shows, λ q. step_worn on c.deref_mut.result.now w s (worn_so c.hanging.inside.worn c.deref_mut.result.now c.hanging.inside.seat.value c.deref_mut.ensures.value c.hanging.invariant.1 q))

@@ -1,6 +1,6 @@
 use Rattle.std.proofs.Common.{◌≡◌, ◌∙◌, refl, subst, sym}
 use Rattle.kc_machine.specs.Points.{first_point, point}
-use Rattle.kc_machine.specs.Seats.{answer_of}
+use Rattle.kc_machine.specs.Seats.{seat_answered}
 use Rattle.kc_table_moves.specs.kc_machine_commits.declared.commit.Stage.TheVariants.{Scan}
 use Rattle.kc_machine_words.specs.declared.access.Found.TheVariants as found
 use Rattle.kc_table_straight.proofs.Links.{free_is, scan_makes, scan_rests, stops_behind}
@@ -40,4 +40,4 @@ returns-then-not-is_free-clause-err g c =
     let is : c.stop_at.result ≡ e = c.stop_at.ensures ∙ (λ i. record { at = stop.Scan; line = 0; made = c.steps.ensures i; held = c.aimed_at-held.ensures i; number = n }) in
     let rests = scan_rests s r.mode r.lines.now control (sym c.is_free.ensures ∙ c.if-not-is_free.true) in
     subst (Paused start r token me) (sym is)
-    (stops_behind start r token me e n refl w (subst (λ x. IsOnward (answer_of (seat_in r (first_point s)) (found.Control x))) (c.unpack-control.ensures.back (w.world.control s.first) w.fits w.found) rests))
+    (stops_behind start r token me e n refl w (subst (λ x. IsOnward (seat_answered (seat_in r (first_point s)) (found.Control x))) (c.unpack-control.ensures.back (w.world.control s.first) w.fits w.found) rests))

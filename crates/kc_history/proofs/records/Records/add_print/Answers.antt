@@ -1,6 +1,6 @@
 use Rattle.std.proofs.Common.{◌≡◌, ◌-◌, ◌≤◌, ◌++◌, ◌∷◌, [], length, vec_len, sym, subst, arith}
 use Rattle.kc_history.proofs.Kept.{joined_alone}
-use Rattle.kc_history.specs.Joined.{blank_head, joined, record_of}
+use Rattle.kc_history.specs.Joined.{blank_head, joined_records, record_of}
 use Rattle.kc_history.specs.RecordsValue.{RecordsValue}
 use Rattle.kc_history.proofs.records.Records.add_print.Goals as goal
 
@@ -13,4 +13,4 @@ returns-clause-items c =
     let none : vec_len c.self.inside.heads - length fs ≡ 0 = subst (λ (v : RecordsValue). v.spare ≡ 0) (sym view) c.requires.spare in
     let o = c.self.inside.heads.ok.0 in
     let room : length hs ≤ length fs = omega arith in
-    rw c.add.ensures (subst (λ (v : RecordsValue). joined hs (fs ++ f ∷ []) ≡ v.items ++ record_of blank_head f ∷ []) view (joined_alone hs fs f room))
+    rw c.add.ensures (subst (λ (v : RecordsValue). joined_records hs (fs ++ f ∷ []) ≡ v.items ++ record_of blank_head f ∷ []) view (joined_alone hs fs f room))

@@ -9,7 +9,7 @@ use Rattle.kc_store.specs.Knows.{IsTold, Remembers}
 use Rattle.kc_store.specs.Verdicts.{is_worn_pool, verdict_of}
 use Rattle.kc_store.specs.Views.{CallerView, StoreView, caller_view}
 use Rattle.kc_store.specs.declared.verdict.Answered.TheVariants as answered
-use Rattle.kc_hang.specs.kc_table_laws.Tasks.{Keeps}
+use Rattle.kc_hang.specs.kc_table_laws.Tasks.{KeepsKnown}
 use Rattle.kc_store.proofs.store.Store.commit_into.Goals as goal
 
 pub commit_by-requires : goal.commit_by-requires
@@ -41,7 +41,7 @@ returns g c =
       told = subst (λ x. IsTold m a x f (caller_view new w)) is (told old new m a v f w e.settles);
       tries = subst (λ (x : CallerView). AllTries m f x.seat w) is e.tries;
       settles = subst (λ (x : CallerView). Settles m a x.seat f w) is e.settles;
-      keeps = subst (λ (x : CallerView). Keeps x.seat w) is e.keeps;
+      keeps = subst (λ (x : CallerView). KeepsKnown x.seat w) is e.keeps;
       remembers = subst (λ x. Remembers x (caller_view new w)) is (remembers old new v w (still_told (is_worn_pool a) old new e.notes) e.keeps);
       within = e.within;
       worn = subst (λ (x : CallerView). x.worn ≡ true → c.commit_by.result ≡ answered.WornPool) is e.worn;

@@ -1,7 +1,7 @@
 use Rattle.std.proofs.Common.{◌<◌, ◌-◌, subst, sym}
 use Rattle.std.specs.Prelude.{Err, Ok}
 use Rattle.kc_hang.specs.kc_table_moves.Views.{TableView}
-use Rattle.kc_hang.specs.kc_table_laws.Tasks.{Keeps}
+use Rattle.kc_hang.specs.kc_table_laws.Tasks.{KeepsKnown}
 use Rattle.kc_store.proofs.Boxed.{caller_of, rests_so, worn_so}
 use Rattle.kc_store.proofs.OneRead.{left, read_busy, sees, stood}
 use Rattle.kc_store.proofs.Resting.{of_table}
@@ -37,7 +37,7 @@ returns-in-Ok c =
     record {
       reads = subst (λ (y : CallerView). Stood l y r (caller_view worn w)) is (stood worn v w l r (sees v b l (Ok r) w from c.in-Ok.ensures.looks));
       learns = subst (λ (y : CallerView). OnlyLearns y (caller_view worn w)) is x.learns;
-      keeps = subst (λ (y : CallerView). Keeps y.seat w) is x.keeps;
+      keeps = subst (λ (y : CallerView). KeepsKnown y.seat w) is x.keeps;
     }
 
 pub returns-in-Err : goal.returns-in-Err
@@ -56,7 +56,7 @@ returns-in-Err c =
     record {
       reads = subst (λ (y : CallerView). IsBusy y.seat steps w) is (read_busy v w l steps e (sees v b l (Err e) w from c.in-Err.ensures.looks) (counted v.seat.made w.seat.made c.steps.result c.steps-before.result x.counts c.steps.ensures c.steps-before.ensures));
       learns = subst (λ (y : CallerView). OnlyLearns y (caller_view worn w)) is x.learns;
-      keeps = subst (λ (y : CallerView). Keeps y.seat w) is x.keeps;
+      keeps = subst (λ (y : CallerView). KeepsKnown y.seat w) is x.keeps;
     }
 
 pub invariant_of-caller : goal.invariant_of-caller

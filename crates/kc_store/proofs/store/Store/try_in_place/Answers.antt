@@ -9,7 +9,7 @@ use Rattle.kc_store.specs.Knows.{IsTold, Remembers}
 use Rattle.kc_store.specs.Tries.{Tries}
 use Rattle.kc_store.specs.Verdicts.{is_worn_by, is_worn_pool, stays_worn, verdict_as}
 use Rattle.kc_store.specs.Views.{CallerView, StoreView, caller_view}
-use Rattle.kc_hang.specs.kc_table_laws.Tasks.{Keeps}
+use Rattle.kc_hang.specs.kc_table_laws.Tasks.{KeepsKnown}
 use Rattle.kc_xt.specs.Commit.{tried_of}
 use Rattle.kc_store.proofs.store.Store.try_in_place.Goals as goal
 
@@ -49,7 +49,7 @@ returns g c =
       told = subst (λ x. IsTold m a x f (caller_view new w)) is (told old new m a v f w s);
       tries = subst (λ (x : CallerView). Tries m f x.seat w) is e.tries;
       settles = subst (λ (x : CallerView). Settles m a x.seat f w) is s;
-      keeps = subst (λ (x : CallerView). Keeps x.seat w) is e.keeps;
+      keeps = subst (λ (x : CallerView). KeepsKnown x.seat w) is e.keeps;
       remembers = subst (λ x. Remembers x (caller_view new w)) is (remembers old new v w (still_told (is_worn_by c.try_quietly-fate.result) old new c.note_worn.ensures) e.keeps);
       within = e.within;
       worn = subst (λ (x : CallerView). x.worn ≡ true → stays_worn a ≡ true) is e.worn;

@@ -1,5 +1,5 @@
 use Rattle.std.proofs.Common.{◌≡◌, ◌∙◌, ap, subst, sym, true}
-use Rattle.kc_machine.specs.Points.{first_point, seat_at}
+use Rattle.kc_machine.specs.Points.{first_point, seat_at_point}
 use Rattle.kc_machine.specs.Seats.{is_idle}
 use Rattle.kc_machine_steps.specs.declared.task.Task.TheVariants as task
 use Rattle.kc_table.proofs.Wholes.{commit_begins, commit_starts, on_begins}
@@ -21,9 +21,9 @@ commit_by-requires-clause-on c = λ r is.
     let idle : is_idle s.work ≡ true = ap (λ (v : SeatView). is_idle v.seat.work) c.seat.view_is ∙ c.requires.idle in
     let w = c.self.inside.words in
     let here : Here w.key w.table_id c.base_at.result z me = record { table = ap (λ v. v.table) e; origin = ap (λ v. v.origin) e; from = c.base_at.ensures ∙ ap base_of i.0; few = i.1; size = i.2 } in
-    let same : seat_at s m xs (first_point s) ≡ seat_at r.seat.now r.mode r.lines.now (first_point s) =
-    ap (λ v. seat_at v m xs (first_point s)) (sym is.seat) ∙ (ap (λ v. seat_at r.seat.now v xs (first_point s)) (sym is.mode) ∙ ap (λ v. seat_at r.seat.now r.mode v (first_point s)) (sym is.lines)) in
-    on_begins r z me c.seat.inside.began s (seat_at r.seat.now r.mode r.lines.now (first_point s)) c.args.seat.now t
+    let same : seat_at_point s m xs (first_point s) ≡ seat_at_point r.seat.now r.mode r.lines.now (first_point s) =
+    ap (λ v. seat_at_point v m xs (first_point s)) (sym is.seat) ∙ (ap (λ v. seat_at_point r.seat.now v xs (first_point s)) (sym is.mode) ∙ ap (λ v. seat_at_point r.seat.now r.mode v (first_point s)) (sym is.lines)) in
+    on_begins r z me c.seat.inside.began s (seat_at_point r.seat.now r.mode r.lines.now (first_point s)) c.args.seat.now t
     (subst (λ v. Here r.words.now.key r.words.now.table_id v z me) (sym is.from)
     (subst (λ v. Here r.words.now.key v c.base_at.result z me) (sym is.table) (subst (λ v. Here v w.table_id c.base_at.result z me) (sym is.key) here)))
     c.seat.invariant c.seat.view_is (commit_starts c.args.seat.now c.args.footprint.now m c.requires.idle) c.requires.made c.requires.known

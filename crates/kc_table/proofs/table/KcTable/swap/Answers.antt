@@ -1,5 +1,5 @@
 use Rattle.std.proofs.Common.{◌∙◌, ap, arith, sym}
-use Rattle.kc_machine.specs.Seats.{answer_of, is_idle}
+use Rattle.kc_machine.specs.Seats.{seat_answered, is_idle}
 use Rattle.kc_machine_steps.specs.Swaps.{may_swap}
 use Rattle.kc_machine_steps.specs.declared.task.Task.TheVariants as task
 use Rattle.kc_machine_words.specs.declared.access.Found.TheVariants as found
@@ -31,7 +31,7 @@ returns-then-owed-eq0-clause-ran c =
     let put = puts_seen c.calls.result c.args.seen c.unpack-now.result (sym c.puts.ensures ∙ c.if-not-puts.false) in
     told_behind s c.args.seen c.args.after idle (ap may_swap (sym c.calls.ensures) ∙ put.1) c.try_word-number.new.token.me c.wake-owed.new.token.me c.wake-owed.result c.wake-owed.ensures.moved
     c.seat.inside.token.table_id c.try_word-number.new.token.table_id c.wake-owed.new.token.table_id c.seat.inside.token.me c.try_word-number.result c.seat.inside.began c.args.seat.now c.end_swap.new.seat
-    c.try_word-number.ensures.table c.wake-owed.ensures.table c.try_word-number.ensures.moved (λ w p e. sym put.0 ∙ c.unpack-now.ensures.back w p e) c.seat.view_is (c.end_swap.ensures ∙ ap (λ n. answer_of (second s c.args.seen c.args.after idle) (found.Callers n)) (sym c.if-owed-eq0.true))
+    c.try_word-number.ensures.table c.wake-owed.ensures.table c.try_word-number.ensures.moved (λ w p e. sym put.0 ∙ c.unpack-now.ensures.back w p e) c.seat.view_is (c.end_swap.ensures ∙ ap (λ n. seat_answered (second s c.args.seen c.args.after idle) (found.Callers n)) (sym c.if-owed-eq0.true))
 
 pub returns-else-owed-eq0-clause-ran : goal.returns-else-owed-eq0-clause-ran
 returns-else-owed-eq0-clause-ran c =

@@ -1,5 +1,5 @@
 use Rattle.std.proofs.Common.{false, true}
-use Rattle.kc_machine.specs.Seats.{answer_of, begun}
+use Rattle.kc_machine.specs.Seats.{seat_answered, begun}
 use Rattle.kc_machine_steps.specs.Swaps.{seen_word}
 use Rattle.kc_machine_steps.specs.declared.task.Task.TheVariants as task
 use Rattle.kc_machine_words.specs.declared.access.Found.TheVariants as found
@@ -11,7 +11,7 @@ ghosts-try_word a = record { now = begun a.seat.now (task.Swap a.seen a.after); 
 
 abbrev pub ghosts-wake : goal.ghosts-wake
 ghosts-wake a = record {
-  now = answer_of (begun a._seat.now (task.Swap a._seen a._after)) (found.Word (seen_word a._seen));
+  now = seat_answered (begun a._seat.now (task.Swap a._seen a._after)) (found.Word (seen_word a._seen));
   began = false;
-  takes = leaves (answer_of (begun a._seat.now (task.Swap a._seen a._after)) (found.Word (seen_word a._seen)));
+  takes = leaves (seat_answered (begun a._seat.now (task.Swap a._seen a._after)) (found.Word (seen_word a._seen)));
 }
