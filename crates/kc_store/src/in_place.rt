@@ -19,6 +19,8 @@ use kc_xt::{Transact, Trial};
 impl Store {
     /// One try, as `try_commit_into`, whose reply stays where it lies, in the trial: what it answers is `verdict_as` of the two. It
     /// wakes nobody: whom its steps have signalled is the caller's to take (`Caller::take_wakes`).
+    // It is in line, so that a transaction that its caller knows is known in it, whoever else tries one of that type.
+    #[inline(always)]
     pub fn try_in_place<T: Transact>(
         &self,
         caller: &mut Caller,
