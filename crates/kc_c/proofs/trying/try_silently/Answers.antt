@@ -1,4 +1,4 @@
-use Rattle.std.proofs.Common.{◌≡◌, true, sym, ◌∙◌, eqb-true}
+use Rattle.std.proofs.Common.{◌≡◌, sym, ◌∙◌, eqb-true}
 use Rattle.kc_c.specs.Tries.{verdict_number}
 use Rattle.kc_c.specs.declared.answers.TheConstants.{DONE}
 use Rattle.kc_store.specs.Verdicts.{verdict_as}

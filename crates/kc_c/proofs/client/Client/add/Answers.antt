@@ -1,7 +1,6 @@
-use Rattle.std.proofs.Common.{refl, ap, arith}
+use Rattle.std.proofs.Common.{refl, arith}
 use Rattle.kc_c.proofs.Adding.{add_alone, add_done, add_stays}
 use Rattle.kc_c.proofs.Loud.{tried_silently}
-use Rattle.kc_c.specs.Standings.{rests}
 use Rattle.kc_c.proofs.client.Client.add.Goals as goal
 
 pub returns-then-answer-ne-DONE-clause-tried : goal.returns-then-answer-ne-DONE-clause-tried
