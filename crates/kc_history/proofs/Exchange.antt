@@ -5,7 +5,7 @@ use Rattle.kc_history.proofs.Choice.{some_is, one_next, none_ready}
 use Rattle.kc_history.proofs.Ready.{versions, same_or, no_some, more_same, more_other, Skips, PutAt, skips_or, puts_there, after_skips, after_put, raised_versions, found, later, ends_what_stands, first_ready}
 use Rattle.kc_history.specs.Moves.{PutsNothingOf, PlacesExchanged}
 use Rattle.kc_history.specs.Moves.Exchanged.{here, there}
-use Rattle.kc_history.specs.Moves.Exchanges.{none, one}
+use Rattle.kc_history.specs.Moves.PlacesExchanged.{none, one}
 use Rattle.kc_history.specs.Order.{Footprints, one_record_more, IsNext, NoneLeft, Legal, Ready, Chooses, NoneReady, IsCanonical}
 use Rattle.kc_history.specs.declared.record.Place.{Place}
 use Rattle.kc_model.specs.Footprint.{Reads, PutsWhatItReads, put_at}

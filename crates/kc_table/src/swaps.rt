@@ -32,6 +32,7 @@ impl KcTable {
     /// seat is told that it succeeded; or Failed, where another value stands there; or Crossed, where a reference does.
     /// From `MOST_SWAPS` calls on it only looks, and is told Crossed where it would have put. It stops short only where it
     /// has to signal somebody; from there it goes on by `step` until the seat is told. One of its loads at most is no step.
+    #[inline(always)]
     pub fn swap(&self, seat: &mut KcSeat, seen: Seen, after: u32)
         requires table { seat.old.of ≡ self.now }
         requires idle { is_idle seat.old.seat.work ≡ true }
