@@ -38,7 +38,7 @@ impl KcasOp {
 
     // The operation that it says, if it is one.
     #[inline(always)]
-    #[tactic(auto, unfolding(crate::specs::Said::said))]
+    #[tactic(auto, unfolding(crate::specs::Said::call_said))]
     pub(crate) fn said(&self) -> Option<Call>
         ensures { result ≡ call_said self.now }
     {

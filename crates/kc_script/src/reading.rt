@@ -361,7 +361,7 @@ fn all_lines(reader: &mut Reader, atomics: &mut Vec<u32>, bytes: &[u8]) -> Resul
 }
 
 // The lines have ended.
-#[tactic(auto, unfolding(crate::specs::Reading::ended))]
+#[tactic(auto, unfolding(crate::specs::Reading::reading_ended))]
 fn ended(reader: &Reader) -> Result<(), Why>
     ensures { Arrives (reader_state reader.now) result (reading_ended (reader_state reader.now)) }
 {

@@ -120,7 +120,7 @@ module _ (limit : ℕ) where
           a.means,
           r.stands,
           record { finds = subst (λ (g : Footprint). Finds g s) (sym r.has) finds; answers = a.answered.answers },
-          subst (λ (g : Footprint). Replays limit threads records (after g s) ps e) (sym r.has) (legal_replays (more p.thread m) (after f s) e ps rest),
+          subst (λ (g : Footprint). Replays limit threads records (after g s) ps e) (sym r.has) (legal_replays (one_record_more p.thread m) (after f s) e ps rest),
         )
 
 -- ---- the run

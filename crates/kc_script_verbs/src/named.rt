@@ -18,7 +18,7 @@ pub enum FunWord {
 }
 
 /// The number of 32 bits at the index.
-#[tactic(auto, unfolding(crate::specs::Saying::value_at))]
+#[tactic(auto, unfolding(crate::specs::Saying::value_said_at))]
 pub fn value_at(args: &[&[u8]], i: usize) -> Result<u32, Why>
     requires { i < length args.now }
     ensures { result ≡ value_said_at (map (λ word. word.now) args.now) i }
