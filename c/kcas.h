@@ -299,6 +299,13 @@ typedef struct kcas_bell {
     kcas_word seats[KCAS_MOST_CALLERS];
 } kcas_bell;
 
+/* What a commit seldom comes to lies out of its line. */
+#ifdef __GNUC__
+#define KCAS_SELDOM static __attribute__((cold, noinline, unused))
+#else
+#define KCAS_SELDOM static inline
+#endif
+
 static inline void kcas_sleep(kcas_word *word, uint32_t seen) {
 #ifdef __linux__
     syscall(SYS_futex, (uint32_t *)word, FUTEX_WAIT_PRIVATE, seen, (void *)0, (void *)0, 0);
@@ -307,7 +314,7 @@ static inline void kcas_sleep(kcas_word *word, uint32_t seen) {
     (void)seen;
 #endif
 }
-static inline void kcas_rouse(kcas_word *word) {
+KCAS_SELDOM void kcas_rouse(kcas_word *word) {
     kcas_plus(word, 1);
 #ifdef __linux__
     syscall(SYS_futex, (uint32_t *)word, FUTEX_WAKE_PRIVATE, INT32_MAX, (void *)0, (void *)0, 0);
@@ -321,11 +328,14 @@ static inline void kcas_pause(void) {
 #endif
 }
 
-/* Wakes those whose hangs a try has ended. */
-static inline void kcas_wake(kcas_bell *bell, uint64_t wakes) {
-    for (uint32_t i = 0; wakes != 0 && bell; wakes >>= 1, i++) {
+KCAS_SELDOM void kcas_rouse_each(kcas_bell *bell, uint64_t wakes) {
+    for (uint32_t i = 0; wakes != 0; wakes >>= 1, i++) {
         if (wakes & 1) kcas_rouse(&bell->seats[i]);
     }
+}
+/* Wakes those whose hangs a try has ended. */
+static inline void kcas_wake(kcas_bell *bell, uint64_t wakes) {
+    if (wakes != 0 && bell) kcas_rouse_each(bell, wakes);
 }
 /* Lets others go on before the next try, longer each time. */
 static inline void kcas_back_off(uint32_t *pauses) {
@@ -337,17 +347,46 @@ static inline void kcas_ring(kcas_bell *bell, uint32_t answer) {
     if (answer == KCAS_DONE && bell && kcas_load(&bell->waiters) != 0) kcas_rouse(&bell->changes);
 }
 
+/* Whether another try may answer otherwise at once. */
+static inline int kcas_missed(uint32_t answer) { return answer == KCAS_LOST || answer == KCAS_BUSY; }
+
+/* One try, and whose hangs it ended are woken. */
+static inline uint32_t kcas_try_once(kcas_bell *bell, kcas_caller *caller, const kcas_op *ops, size_t count, kcas_reply *replies, size_t room) {
+    uint64_t wakes = 0;
+    uint32_t answer = kcas_try(caller, ops, count, replies, room, &wakes);
+    kcas_wake(bell, wakes);
+    return answer;
+}
+static inline uint32_t kcas_add_once(kcas_bell *bell, kcas_caller *caller, uint32_t location, uint32_t number, uint32_t *before) {
+    uint64_t wakes = 0;
+    uint32_t answer = kcas_add(caller, location, number, before, &wakes);
+    kcas_wake(bell, wakes);
+    return answer;
+}
+
+/* The tries behind a first one that was lost or given up. */
+KCAS_SELDOM uint32_t kcas_try_on(kcas_bell *bell, kcas_caller *caller, const kcas_op *ops, size_t count, kcas_reply *replies, size_t room) {
+    uint32_t answer, pauses = 16;
+    do {
+        kcas_back_off(&pauses);
+        answer = kcas_try_once(bell, caller, ops, count, replies, room);
+    } while (kcas_missed(answer));
+    return answer;
+}
+KCAS_SELDOM uint32_t kcas_add_on(kcas_bell *bell, kcas_caller *caller, uint32_t location, uint32_t number, uint32_t *before) {
+    uint32_t answer, pauses = 16;
+    do {
+        kcas_back_off(&pauses);
+        answer = kcas_add_once(bell, caller, location, number, before);
+    } while (kcas_missed(answer));
+    return answer;
+}
+
 /* Tries until a try was neither lost nor given up, and wakes those whose hangs it ended. */
 static inline uint32_t kcas_commit_quietly(kcas_bell *bell, kcas_caller *caller, const kcas_op *ops, size_t count, kcas_reply *replies, size_t room) {
-    uint32_t answer, pauses = 16;
     kcas_enter(caller);
-    for (;;) {
-        uint64_t wakes = 0;
-        answer = kcas_try(caller, ops, count, replies, room, &wakes);
-        kcas_wake(bell, wakes);
-        if (answer != KCAS_LOST && answer != KCAS_BUSY) break;
-        kcas_back_off(&pauses);
-    }
+    uint32_t answer = kcas_try_once(bell, caller, ops, count, replies, room);
+    if (kcas_missed(answer)) answer = kcas_try_on(bell, caller, ops, count, replies, room);
     kcas_exit(caller);
     return answer;
 }
@@ -362,15 +401,9 @@ static inline uint32_t kcas_commit(kcas_bell *bell, kcas_caller *caller, const k
 
 /* The same of kcas_add: KCAS_DONE, with the value before, unless the store is worn or the call is wrong. */
 static inline uint32_t kcas_commit_add(kcas_bell *bell, kcas_caller *caller, uint32_t location, uint32_t number, uint32_t *before) {
-    uint32_t answer, pauses = 16;
     kcas_enter(caller);
-    for (;;) {
-        uint64_t wakes = 0;
-        answer = kcas_add(caller, location, number, before, &wakes);
-        kcas_wake(bell, wakes);
-        if (answer != KCAS_LOST && answer != KCAS_BUSY) break;
-        kcas_back_off(&pauses);
-    }
+    uint32_t answer = kcas_add_once(bell, caller, location, number, before);
+    if (kcas_missed(answer)) answer = kcas_add_on(bell, caller, location, number, before);
     kcas_exit(caller);
     kcas_ring(bell, answer);
     return answer;
