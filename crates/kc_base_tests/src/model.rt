@@ -1,6 +1,7 @@
 ghost use Rattle.std.specs.Prelude.{IsTrue};
 ghost use Rattle.kc_model.specs.Forms.{are_calls};
 
+use crate::asserts::{equal, holds};
 use kc_model::*;
 use std::alloc::Global;
 use std::test::Fail;
@@ -12,9 +13,9 @@ fn a_store_of_one_value_too_many_is_refused(rt: HostRuntime) -> Result<(), Fail>
         &PlainStore::open(rt.alloc(), &many),
         Err(ModelError::TooManyLocs)
     );
-    assert!(rt; refused);
+    holds(&rt, refused);
     let opened = PlainStore::open(rt.alloc(), &many[..MOST_LOCATIONS]).is_ok();
-    assert!(rt; opened);
+    holds(&rt, opened);
     Ok(())
 }
 
@@ -29,12 +30,13 @@ fn a_read_of_another_version_is_stale(rt: HostRuntime) -> Result<(), Fail> {
         version: 1,
         value: 5,
     });
-    assert_eq!(rt;
+    equal(
+        &rt,
         store.apply(&footprint),
         Err(Stale {
             loc: Loc(0),
             version: 0,
-        })
+        }),
     );
     Ok(())
 }
@@ -55,16 +57,17 @@ fn a_put_raises_the_version_where_the_value_stays(rt: HostRuntime) -> Result<(),
         version: 0,
         after: 5,
     });
-    assert_eq!(rt; store.apply(&footprint), Ok(()));
-    assert_eq!(rt;
+    equal(&rt, store.apply(&footprint), Ok(()));
+    equal(
+        &rt,
         store.seen(Loc(0)),
         Some(Seen {
             loc: Loc(0),
             version: 1,
             value: 5,
-        })
+        }),
     );
-    assert_eq!(rt; store.get(Loc(1)), None);
+    equal(&rt, store.get(Loc(1)), None);
     Ok(())
 }
 
@@ -74,15 +77,15 @@ fn a_word_has_its_bits(rt: HostRuntime) -> Result<(), Fail> {
         version: 3,
         value: 7,
     };
-    assert_eq!(rt; plain.pack(), 0x0000_0003_0000_0007);
-    assert_eq!(rt; Word::unpack(0x0000_0003_0000_0007), plain);
+    equal(&rt, plain.pack(), 0x0000_0003_0000_0007);
+    equal(&rt, Word::unpack(0x0000_0003_0000_0007), plain);
     let reference = Word::Ref {
         generation: 1,
         descriptor: 3,
         entry: 0,
     };
-    assert_eq!(rt; reference.pack(), 0x8000_0000_0080_0300);
-    assert_eq!(rt; Word::unpack(0x8000_0000_0080_0300), reference);
+    equal(&rt, reference.pack(), 0x8000_0000_0080_0300);
+    equal(&rt, Word::unpack(0x8000_0000_0080_0300), reference);
     Ok(())
 }
 
@@ -108,10 +111,16 @@ fn is_fetched(fetched: &Result<Vec<u8>, ShelfError>, bytes: &[u8]) -> bool {
 fn a_file_of_the_limit_is_whole_and_a_longer_one_is_too_long(rt: HostRuntime) -> Result<(), Fail> {
     let alloc = rt.alloc();
     let mut shelf = shelf(alloc, Vec::new(alloc))?;
-    assert!(rt; is_fetched(&shelf.fetch(alloc, "a", 3), b"one"));
-    assert!(rt; matches!(&shelf.fetch(alloc, "a", 2), Err(ShelfError::TooLong)));
-    assert!(rt; is_fetched(&shelf.fetch(alloc, "b", 0), b""));
-    assert!(rt; matches!(&shelf.fetch(alloc, "c", 3), Err(ShelfError::Failed)));
+    holds(&rt, is_fetched(&shelf.fetch(alloc, "a", 3), b"one"));
+    holds(
+        &rt,
+        matches!(&shelf.fetch(alloc, "a", 2), Err(ShelfError::TooLong)),
+    );
+    holds(&rt, is_fetched(&shelf.fetch(alloc, "b", 0), b""));
+    holds(
+        &rt,
+        matches!(&shelf.fetch(alloc, "c", 3), Err(ShelfError::Failed)),
+    );
     Ok(())
 }
 
@@ -119,9 +128,12 @@ fn a_file_of_the_limit_is_whole_and_a_longer_one_is_too_long(rt: HostRuntime) ->
 fn a_listed_call_fails_and_no_other(rt: HostRuntime) -> Result<(), Fail> {
     let alloc = rt.alloc();
     let mut shelf = shelf(alloc, vec![in alloc; 2]?)?;
-    assert!(rt; is_fetched(&shelf.fetch(alloc, "a", 3), b"one"));
-    assert!(rt; matches!(&shelf.fetch(alloc, "a", 3), Err(ShelfError::Failed)));
-    assert!(rt; is_fetched(&shelf.fetch(alloc, "a", 3), b"one"));
+    holds(&rt, is_fetched(&shelf.fetch(alloc, "a", 3), b"one"));
+    holds(
+        &rt,
+        matches!(&shelf.fetch(alloc, "a", 3), Err(ShelfError::Failed)),
+    );
+    holds(&rt, is_fetched(&shelf.fetch(alloc, "a", 3), b"one"));
     Ok(())
 }
 
@@ -132,16 +144,16 @@ fn files_are_fetched_up_to_the_first_that_fails(rt: HostRuntime) -> Result<(), F
     let mut whole = shelf(alloc, Vec::new(alloc))?;
     let files = fetch_all(alloc, &mut whole, &names, 3);
     let expected: [&[u8]; 3] = [b"one", b"", b"one"];
-    assert!(rt; matches!(&files, Ok(files) if files.len() == 3));
+    holds(&rt, matches!(&files, Ok(files) if files.len() == 3));
     if let Ok(files) = files {
         for i in 0..3 {
-            assert!(rt; files[i].as_slice() == expected[i]);
+            holds(&rt, files[i].as_slice() == expected[i]);
         }
     }
     let mut frail = shelf(alloc, vec![in alloc; 3]?)?;
     let failed = fetch_all(alloc, &mut frail, &names, 3);
-    assert!(rt; matches!(&failed, Err(ShelfError::Failed)));
+    holds(&rt, matches!(&failed, Err(ShelfError::Failed)));
     let past = fetch_all(alloc, &mut whole, &names, 2);
-    assert!(rt; matches!(&past, Err(ShelfError::TooLong)));
+    holds(&rt, matches!(&past, Err(ShelfError::TooLong)));
     Ok(())
 }

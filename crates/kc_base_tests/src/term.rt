@@ -8,6 +8,7 @@ ghost use Rattle.kc_term.specs.Tree.{op, seq, first, trees};
 ghost use Rattle.kc_term.specs.Meaning.{term_meaning};
 ghost use Rattle.kc_base_tests.specs.Worked.{add_program};
 
+use crate::asserts::{equal, holds};
 use kc_model::{Item, Items, Loc, MOST, PlainStore, Reply};
 use kc_term::*;
 use kc_xt::{Peek, PlainPeek, Room, Stop, Transact, Xt};
@@ -128,7 +129,7 @@ fn a_sequence_of_nothing_replies_no_items(rt: HostRuntime) -> Result<(), Fail> {
     let mut room = Room::new();
     let mut xt = Xt::new(PlainPeek::new(&store), &mut room, MOST as u32);
     let nothing = one_after_another(Vec::new(rt.alloc()))?;
-    assert_eq!(rt; answer(&nothing, &store, &mut xt)?, Ok(many(&[])));
+    equal(&rt, answer(&nothing, &store, &mut xt)?, Ok(many(&[])));
     Ok(())
 }
 
@@ -145,7 +146,7 @@ fn items_of_a_part_stand_in_its_place(rt: HostRuntime) -> Result<(), Fail> {
         Item::Value(8),
         Item::Value(7),
     ];
-    assert_eq!(rt; answer(&outer, &store, &mut xt)?, Ok(many(&items)));
+    equal(&rt, answer(&outer, &store, &mut xt)?, Ok(many(&items)));
     Ok(())
 }
 
@@ -155,10 +156,10 @@ fn a_sequence_ends_where_a_part_would_wait(rt: HostRuntime) -> Result<(), Fail> 
     let mut room = Room::new();
     let mut xt = Xt::new(PlainPeek::new(&store), &mut room, MOST as u32);
     let term = one_after_another(vec![in rt.alloc(); adding(0, 1), waiting(1, 9), adding(2, 1)]?)?;
-    assert_eq!(rt; answer(&term, &store, &mut xt)?, Err(Stop::Retry));
+    equal(&rt, answer(&term, &store, &mut xt)?, Err(Stop::Retry));
     let (_, footprint) = xt.into_parts();
-    assert_eq!(rt; footprint.reads.len(), 2);
-    assert_eq!(rt; footprint.puts.len(), 1);
+    equal(&rt, footprint.reads.len(), 2);
+    equal(&rt, footprint.puts.len(), 1);
     Ok(())
 }
 
@@ -178,19 +179,27 @@ fn a_pair_replies_as_the_sequence_of_the_two_and_ends_where_one_waits(
         Item::Value(8),
         Item::Value(9),
     ];
-    assert_eq!(rt; answer(&term, &store, &mut xt)?, Ok(many(&items)));
+    equal(&rt, answer(&term, &store, &mut xt)?, Ok(many(&items)));
     let waits = Add {
         at: 1,
         least: 9,
         n: 1,
     };
     let first_waits = Term::pair(waits, add(2, 1));
-    assert_eq!(rt; answer(&first_waits, &store, &mut xt)?, Err(Stop::Retry));
+    equal(
+        &rt,
+        answer(&first_waits, &store, &mut xt)?,
+        Err(Stop::Retry),
+    );
     let second_waits = Term::pair(add(0, 0), waits);
-    assert_eq!(rt; answer(&second_waits, &store, &mut xt)?, Err(Stop::Retry));
+    equal(
+        &rt,
+        answer(&second_waits, &store, &mut xt)?,
+        Err(Stop::Retry),
+    );
     let (_, footprint) = xt.into_parts();
-    assert_eq!(rt; footprint.reads.len(), 2);
-    assert_eq!(rt; footprint.puts.len(), 2);
+    equal(&rt, footprint.reads.len(), 2);
+    equal(&rt, footprint.puts.len(), 2);
     Ok(())
 }
 
@@ -208,14 +217,15 @@ fn an_alternative_that_would_wait_is_rolled_back_and_its_reads_stay(
     ]?)?;
     let alternatives = either(rt.alloc(), given_up, adding(0, 2))?;
     let term = one_after_another(vec![in rt.alloc(); adding(0, 1), alternatives]?)?;
-    assert_eq!(rt;
+    equal(
+        &rt,
         answer(&term, &store, &mut xt)?,
-        Ok(many(&[Item::Value(5), Item::Value(6)]))
+        Ok(many(&[Item::Value(5), Item::Value(6)])),
     );
     let (_, footprint) = xt.into_parts();
-    assert_eq!(rt; footprint.reads.len(), 3);
-    assert_eq!(rt; footprint.puts.len(), 1);
-    assert_eq!(rt; footprint.puts[0].after, 8);
+    equal(&rt, footprint.reads.len(), 3);
+    equal(&rt, footprint.puts.len(), 1);
+    equal(&rt, footprint.puts[0].after, 8);
     Ok(())
 }
 
@@ -225,9 +235,9 @@ fn the_second_alternative_is_not_run_where_the_first_replies(rt: HostRuntime) ->
     let mut room = Room::new();
     let mut xt = Xt::new(PlainPeek::new(&store), &mut room, MOST as u32);
     let term = either(rt.alloc(), adding(0, 1), adding(1, 1))?;
-    assert_eq!(rt; answer(&term, &store, &mut xt)?, Ok(Reply::Value(5)));
+    equal(&rt, answer(&term, &store, &mut xt)?, Ok(Reply::Value(5)));
     let (_, footprint) = xt.into_parts();
-    assert_eq!(rt; footprint.reads.len(), 1);
+    equal(&rt, footprint.reads.len(), 1);
     Ok(())
 }
 
@@ -239,13 +249,14 @@ fn the_second_alternative_is_not_run_where_the_first_is_too_large(
     let mut room = Room::new();
     let mut xt = Xt::new(PlainPeek::new(&store), &mut room, 2);
     for at in 0..2 {
-        assert_eq!(rt;
+        equal(
+            &rt,
             answer(&adding(at, 0), &store, &mut xt)?,
-            Ok(Reply::Value(5))
+            Ok(Reply::Value(5)),
         );
     }
     let term = either(rt.alloc(), adding(2, 1), adding(0, 1))?;
-    assert_eq!(rt; answer(&term, &store, &mut xt)?, Err(Stop::TooLarge));
+    equal(&rt, answer(&term, &store, &mut xt)?, Err(Stop::TooLarge));
     Ok(())
 }
 
@@ -263,10 +274,10 @@ fn seventeen_operations_are_given_back(rt: HostRuntime) -> Result<(), Fail> {
     match Term::seq(parts) {
         Ok(_) => Err(Fail::from("seventeen")),
         Err(TooMany { mut parts }) => {
-            assert_eq!(rt; parts.len(), 9);
+            equal(&rt, parts.len(), 9);
             drop(parts.pop());
             let sixteen = one_after_another(parts)?;
-            assert!(rt; sixteen.is_short());
+            holds(&rt, sixteen.is_short());
             Ok(())
         }
     }
@@ -281,8 +292,8 @@ fn the_ninth_nested_alternatives_are_given_back(rt: HostRuntime) -> Result<(), F
     let deep = one_after_another(vec![in rt.alloc(); adding(9, 0), term]?)?;
     match Term::first(rt.alloc(), deep, adding(10, 0)) {
         Err(TermError::TooDeep { a, b }) => {
-            assert!(rt; matches!(a.node(), Node::Seq(_)));
-            assert!(rt; matches!(b.node(), Node::Op(Add { at: 10, .. })));
+            holds(&rt, matches!(a.node(), Node::Seq(_)));
+            holds(&rt, matches!(b.node(), Node::Op(Add { at: 10, .. })));
             Ok(())
         }
         _ => Err(Fail::from("nine alternatives in one another")),
@@ -332,23 +343,25 @@ fn a_row_replies_each_item_and_stops_where_one_waits(rt: HostRuntime) -> Result<
     let mut room = Room::new();
     let mut xt = Xt::new(PlainPeek::new(&store), &mut room, MOST as u32);
     let add = |at, n| Add { at, least: 0, n };
-    assert_eq!(rt; answer_row(&[], &store, &mut xt)?, Ok(many(&[])));
-    assert_eq!(rt;
+    equal(&rt, answer_row(&[], &store, &mut xt)?, Ok(many(&[])));
+    equal(
+        &rt,
         answer_row(&[add(1, 3), add(0, 1), add(1, 0)], &store, &mut xt)?,
-        Ok(many(&[Item::Value(6), Item::Value(5), Item::Value(9)]))
+        Ok(many(&[Item::Value(6), Item::Value(5), Item::Value(9)])),
     );
     let waits = Add {
         at: 0,
         least: 7,
         n: 0,
     };
-    assert_eq!(rt;
+    equal(
+        &rt,
         answer_row(&[add(0, 0), waits, add(1, 1)], &store, &mut xt)?,
-        Err(Stop::Retry)
+        Err(Stop::Retry),
     );
     let (_, footprint) = xt.into_parts();
-    assert_eq!(rt; footprint.puts.len(), 2);
-    assert_eq!(rt; footprint.puts[1].after, 9);
+    equal(&rt, footprint.puts.len(), 2);
+    equal(&rt, footprint.puts[1].after, 9);
     Ok(())
 }
 
@@ -363,23 +376,27 @@ fn the_first_of_two_rows_is_taken_back_where_it_waits(rt: HostRuntime) -> Result
         least: 7,
         n: 0,
     };
-    assert_eq!(rt;
+    equal(
+        &rt,
         answer_either(&[add(1, 3), waits], &[add(1, 1)], &store, &mut xt)?,
-        Ok(many(&[Item::Value(5)]))
+        Ok(many(&[Item::Value(5)])),
     );
-    assert_eq!(rt;
+    equal(
+        &rt,
         answer_either(&[add(1, 0)], &[add(1, 1)], &store, &mut xt)?,
-        Ok(many(&[Item::Value(6)]))
+        Ok(many(&[Item::Value(6)])),
     );
     for at in 2..12 {
-        assert_eq!(rt;
+        equal(
+            &rt,
             answer_row(&[add(at, 1)], &store, &mut xt)?,
-            Ok(many(&[Item::Value(5)]))
+            Ok(many(&[Item::Value(5)])),
         );
     }
-    assert_eq!(rt;
+    equal(
+        &rt,
         answer_either(&[add(1, 3), waits], &[add(1, 0)], &store, &mut xt)?,
-        Ok(many(&[Item::Value(6)]))
+        Ok(many(&[Item::Value(6)])),
     );
     Ok(())
 }

@@ -6,6 +6,7 @@ ghost use Rattle.kc_xt.specs.Program.{meaning, read, write, replies, retries};
 ghost use Rattle.kc_xt.specs.Steps.{Does};
 ghost use Rattle.kc_base_tests.specs.Worked.{clears, takes_one};
 
+use crate::asserts::{equal, holds};
 use kc_model::{Footprint, LAST_VERSION, Loc, MOST, PlainStore, Put, Reply, Seen};
 use kc_xt::*;
 use std::alloc::Global;
@@ -35,11 +36,11 @@ fn the_line_past_the_most_is_too_large(rt: HostRuntime) -> Result<(), Fail> {
     let mut room = Room::new();
     let mut xt = Xt::new(PlainPeek::new(&store), &mut room, MOST as u32);
     for l in 0..MOST as u32 {
-        assert_eq!(rt; xt.get(Loc(l)), Ok(7));
+        equal(&rt, xt.get(Loc(l)), Ok(7));
     }
-    assert_eq!(rt; xt.get(Loc(MOST as u32)), Err(Stop::TooLarge));
-    assert_eq!(rt; xt.set(Loc(0), 8), Ok(()));
-    assert_eq!(rt; xt.get(Loc(0)), Ok(8));
+    equal(&rt, xt.get(Loc(MOST as u32)), Err(Stop::TooLarge));
+    equal(&rt, xt.set(Loc(0), 8), Ok(()));
+    equal(&rt, xt.get(Loc(0)), Ok(8));
     Ok(())
 }
 
@@ -48,11 +49,11 @@ fn a_log_keeps_to_the_limit_that_it_was_given(rt: HostRuntime) -> Result<(), Fai
     let store = store_of(rt.alloc(), &[5, 6, 7])?;
     let mut room = Room::new();
     let mut xt = Xt::new(PlainPeek::new(&store), &mut room, 2);
-    assert_eq!(rt; xt.get(Loc(2)), Ok(7));
-    assert_eq!(rt; xt.set(Loc(0), 8), Ok(()));
-    assert_eq!(rt; xt.set(Loc(1), 9), Err(Stop::TooLarge));
-    assert_eq!(rt; xt.get(Loc(0)), Ok(8));
-    assert_eq!(rt; xt.count(), 2);
+    equal(&rt, xt.get(Loc(2)), Ok(7));
+    equal(&rt, xt.set(Loc(0), 8), Ok(()));
+    equal(&rt, xt.set(Loc(1), 9), Err(Stop::TooLarge));
+    equal(&rt, xt.get(Loc(0)), Ok(8));
+    equal(&rt, xt.count(), 2);
     Ok(())
 }
 
@@ -61,16 +62,16 @@ fn a_rollback_keeps_lines_and_takes_back_values(rt: HostRuntime) -> Result<(), F
     let store = store_of(rt.alloc(), &[5, 6])?;
     let mut room = Room::new();
     let mut xt = Xt::new(PlainPeek::new(&store), &mut room, MOST as u32);
-    assert_eq!(rt; xt.set(Loc(0), 7), Ok(()));
+    equal(&rt, xt.set(Loc(0), 7), Ok(()));
     let before = xt.snapshot::<{ FEW }>();
-    assert_eq!(rt; xt.set(Loc(0), 8), Ok(()));
-    assert_eq!(rt; xt.set(Loc(1), 9), Ok(()));
+    equal(&rt, xt.set(Loc(0), 8), Ok(()));
+    equal(&rt, xt.set(Loc(1), 9), Ok(()));
     xt.rollback(&before);
-    assert_eq!(rt; xt.get(Loc(0)), Ok(7));
-    assert_eq!(rt; xt.get(Loc(1)), Ok(6));
+    equal(&rt, xt.get(Loc(0)), Ok(7));
+    equal(&rt, xt.get(Loc(1)), Ok(6));
     let (_, footprint) = xt.into_parts();
-    assert_eq!(rt; footprint.reads.len(), 2);
-    assert_eq!(rt; footprint.puts.len(), 1);
+    equal(&rt, footprint.reads.len(), 2);
+    equal(&rt, footprint.puts.len(), 1);
     Ok(())
 }
 
@@ -79,9 +80,9 @@ fn a_swap_gives_each_location_the_other_value(rt: HostRuntime) -> Result<(), Fai
     let store = store_of(rt.alloc(), &[5, 6])?;
     let mut room = Room::new();
     let mut xt = Xt::new(PlainPeek::new(&store), &mut room, MOST as u32);
-    assert_eq!(rt; xt.swap(Loc(0), Loc(1)), Ok(()));
-    assert_eq!(rt; xt.get(Loc(0)), Ok(6));
-    assert_eq!(rt; xt.get(Loc(1)), Ok(5));
+    equal(&rt, xt.swap(Loc(0), Loc(1)), Ok(()));
+    equal(&rt, xt.get(Loc(0)), Ok(6));
+    equal(&rt, xt.get(Loc(1)), Ok(5));
     Ok(())
 }
 
@@ -90,9 +91,9 @@ fn a_compare_and_set_that_answers_false_sets_nothing(rt: HostRuntime) -> Result<
     let store = store_of(rt.alloc(), &[5])?;
     let mut room = Room::new();
     let mut xt = Xt::new(PlainPeek::new(&store), &mut room, MOST as u32);
-    assert_eq!(rt; xt.compare_and_set(Loc(0), 6, 7), Ok(false));
+    equal(&rt, xt.compare_and_set(Loc(0), 6, 7), Ok(false));
     let (_, footprint) = xt.into_parts();
-    assert!(rt; footprint.puts.is_empty());
+    holds(&rt, footprint.puts.is_empty());
     Ok(())
 }
 
@@ -101,9 +102,9 @@ fn a_sum_wraps_and_an_exchange_answers_the_value_before(rt: HostRuntime) -> Resu
     let store = store_of(rt.alloc(), &[u32::MAX])?;
     let mut room = Room::new();
     let mut xt = Xt::new(PlainPeek::new(&store), &mut room, MOST as u32);
-    assert_eq!(rt; xt.fetch_add(Loc(0), 3), Ok(u32::MAX));
-    assert_eq!(rt; xt.exchange(Loc(0), 9), Ok(2));
-    assert_eq!(rt; xt.compare_and_set(Loc(0), 9, 1), Ok(true));
+    equal(&rt, xt.fetch_add(Loc(0), 3), Ok(u32::MAX));
+    equal(&rt, xt.exchange(Loc(0), 9), Ok(2));
+    equal(&rt, xt.compare_and_set(Loc(0), 9, 1), Ok(true));
     Ok(())
 }
 
@@ -124,11 +125,11 @@ fn a_loop_clears_the_locations_that_it_names_alone(rt: HostRuntime) -> Result<()
     let store = store_of(rt.alloc(), &[5, 6, 7, 8])?;
     let mut room = Room::new();
     let mut xt = Xt::new(PlainPeek::new(&store), &mut room, MOST as u32);
-    assert_eq!(rt; clear_range(1, 3, &mut xt), Ok(Reply::Unit));
-    assert_eq!(rt; xt.get(Loc(0)), Ok(5));
-    assert_eq!(rt; xt.get(Loc(1)), Ok(0));
-    assert_eq!(rt; xt.get(Loc(2)), Ok(0));
-    assert_eq!(rt; xt.get(Loc(3)), Ok(8));
+    equal(&rt, clear_range(1, 3, &mut xt), Ok(Reply::Unit));
+    equal(&rt, xt.get(Loc(0)), Ok(5));
+    equal(&rt, xt.get(Loc(1)), Ok(0));
+    equal(&rt, xt.get(Loc(2)), Ok(0));
+    equal(&rt, xt.get(Loc(3)), Ok(8));
     Ok(())
 }
 
@@ -210,7 +211,7 @@ fn an_attempt_on_a_plain_store_is_done_or_is_for_later(rt: HostRuntime) -> Resul
         &mut trial,
         &mut footprint,
     );
-    assert_eq!(rt; trial.tried(), Tried::Done(Reply::Value(3)));
+    equal(&rt, trial.tried(), Tried::Done(Reply::Value(3)));
     let (loc, version) = (Loc(1), 0);
     let (read, put) = (
         Seen {
@@ -224,9 +225,9 @@ fn an_attempt_on_a_plain_store_is_done_or_is_for_later(rt: HostRuntime) -> Resul
             after: 2,
         },
     );
-    assert_eq!(rt; footprint.reads.as_slice().first(), Some(&read));
-    assert_eq!(rt; footprint.puts.as_slice().first(), Some(&put));
-    assert_eq!(rt; footprint.reads.len() + footprint.puts.len(), 2);
+    equal(&rt, footprint.reads.as_slice().first(), Some(&read));
+    equal(&rt, footprint.puts.as_slice().first(), Some(&put));
+    equal(&rt, footprint.reads.len() + footprint.puts.len(), 2);
     attempt(
         PlainPeek::new(&store),
         &mut room,
@@ -234,9 +235,9 @@ fn an_attempt_on_a_plain_store_is_done_or_is_for_later(rt: HostRuntime) -> Resul
         &mut trial,
         &mut footprint,
     );
-    assert_eq!(rt; trial.tried(), Tried::Later);
-    assert_eq!(rt; footprint.reads.len(), 1);
-    assert!(rt; footprint.puts.is_empty());
+    equal(&rt, trial.tried(), Tried::Later);
+    equal(&rt, footprint.reads.len(), 1);
+    holds(&rt, footprint.puts.is_empty());
     Ok(())
 }
 
@@ -249,9 +250,9 @@ fn a_write_at_the_last_version_is_worn_and_a_busy_look_leaves_the_footprint(
         version: Some(LAST_VERSION),
     };
     attempt(last, &mut room, &Take { at: 2 }, &mut trial, &mut footprint);
-    assert_eq!(rt; trial.tried(), Tried::Worn(Loc(2)));
-    assert_eq!(rt; footprint.reads.len(), 1);
-    assert!(rt; footprint.puts.is_empty());
+    equal(&rt, trial.tried(), Tried::Worn(Loc(2)));
+    equal(&rt, footprint.reads.len(), 1);
+    holds(&rt, footprint.puts.is_empty());
     attempt(
         Shown { version: None },
         &mut room,
@@ -259,13 +260,13 @@ fn a_write_at_the_last_version_is_worn_and_a_busy_look_leaves_the_footprint(
         &mut trial,
         &mut footprint,
     );
-    assert_eq!(rt; trial.tried(), Tried::Busy);
-    assert_eq!(rt; footprint.reads.len(), 1);
+    equal(&rt, trial.tried(), Tried::Busy);
+    equal(&rt, footprint.reads.len(), 1);
     let near = Shown {
         version: Some(LAST_VERSION - 1),
     };
     attempt(near, &mut room, &Take { at: 2 }, &mut trial, &mut footprint);
-    assert_eq!(rt; trial.tried(), Tried::Done(Reply::Value(5)));
-    assert_eq!(rt; footprint.puts.len(), 1);
+    equal(&rt, trial.tried(), Tried::Done(Reply::Value(5)));
+    equal(&rt, footprint.puts.len(), 1);
     Ok(())
 }

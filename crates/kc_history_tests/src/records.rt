@@ -3,6 +3,7 @@
 ghost use Rattle.std.specs.Prelude.{◌≡◌, ◌+◌, ◌-◌, ◌<◌, ◌≤◌, IfOk, [], length};
 ghost use Rattle.kc_model.specs.declared.footprint.TheConstants.{MOST};
 
+use crate::asserts::{equal, holds};
 use kc_history::{Cycle, Mark, Place, Records, Room, are_well_made, arrange, write_text};
 use kc_model::{Answer, Footprint, FrailSink, Item, Items, Loc, MOST, Put, Reply, Seen};
 use std::alloc::Global;
@@ -36,8 +37,8 @@ fn an_end_has_no_reply_line(rt: HostRuntime) -> Result<(), Fail> {
         },
     ];
     let mut sink = FrailSink::new(rt.alloc(), 64, Vec::new(rt.alloc()))?;
-    assert!(rt; write_text(&records, &order, &mut sink).is_ok());
-    assert_eq!(rt; sink.bytes(), b"1.1 5\norder\n1.1\n1.end\n".as_slice());
+    holds(&rt, write_text(&records, &order, &mut sink).is_ok());
+    equal(&rt, sink.bytes(), b"1.1 5\norder\n1.1\n1.end\n".as_slice());
     Ok(())
 }
 
@@ -48,8 +49,8 @@ fn shows(rt: &impl Abort, alloc: Global, answer: Answer, text: &[u8]) -> Result<
     let mut records = Vec::new(alloc);
     records.push(list)?;
     let mut sink = FrailSink::new(alloc, 64, Vec::new(alloc))?;
-    assert!(rt; write_text(&records, &[], &mut sink).is_ok());
-    assert_eq!(rt; sink.bytes(), text);
+    holds(rt, write_text(&records, &[], &mut sink).is_ok());
+    equal(rt, sink.bytes(), text);
     Ok(())
 }
 
@@ -134,8 +135,8 @@ fn a_later_reader_of_what_a_put_ends_stands_before_it(rt: HostRuntime) -> Result
     add_version(&mut second, 2, 1, 0, false);
     add_version(&mut second, 2, 2, 1, true);
     let (room, ended) = arranged(rt.alloc(), first, second)?;
-    assert_eq!(rt; ended, Ok(()));
-    assert_eq!(rt; room.order(), [at(1, 0), at(0, 0), at(1, 1)].as_slice());
+    equal(&rt, ended, Ok(()));
+    equal(&rt, room.order(), [at(1, 0), at(0, 0), at(1, 1)].as_slice());
     Ok(())
 }
 
@@ -143,12 +144,12 @@ fn a_later_reader_of_what_a_put_ends_stands_before_it(rt: HostRuntime) -> Result
 fn a_footprint_alone_stands_as_its_record_would(rt: HostRuntime) -> Result<(), Fail> {
     let mut first = Records::open_prints(rt.alloc(), 1, MOST as u32)?;
     first.add_print(&print(0, true));
-    assert_eq!(rt; first.head(0).thread, 0);
+    equal(&rt, first.head(0).thread, 0);
     let mut second = open(rt.alloc())?;
     add_version(&mut second, 2, 1, 0, false);
     let (room, ended) = arranged(rt.alloc(), first, second)?;
-    assert_eq!(rt; ended, Ok(()));
-    assert_eq!(rt; room.order(), [at(1, 0), at(0, 0)].as_slice());
+    equal(&rt, ended, Ok(()));
+    equal(&rt, room.order(), [at(1, 0), at(0, 0)].as_slice());
     Ok(())
 }
 
@@ -162,6 +163,6 @@ fn two_records_that_end_one_version_are_stuck(rt: HostRuntime) -> Result<(), Fai
         thread: 1,
         number: 1,
     };
-    assert_eq!(rt; ended, Err(stuck));
+    equal(&rt, ended, Err(stuck));
     Ok(())
 }

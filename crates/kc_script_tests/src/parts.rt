@@ -1,5 +1,6 @@
 //! Scripts in parts.
 
+use crate::asserts::{equal, holds};
 use kc_cells::{AccAct, AccOp, Accumulator};
 use kc_loc::LocOp;
 use kc_model::Loc;
@@ -113,11 +114,12 @@ fn the_limits_of_a_thread_are_those_of_its_file(rt: HostRuntime) -> Result<(), F
         text.push_str("incr x\n")?;
     }
     let x = "kcas 1\nloc x 0";
-    assert!(rt; fault(&rt, x, &text, &text).is_none());
+    holds(&rt, fault(&rt, x, &text, &text).is_none());
     text.push_str("incr x\n")?;
-    assert_eq!(rt;
+    equal(
+        &rt,
         fault(&rt, x, "incr x", &text),
-        Some((2, 4097, Why::TooMany(Limit::Commands)))
+        Some((2, 4097, Why::TooMany(Limit::Commands))),
     );
     Ok(())
 }
@@ -141,12 +143,15 @@ fn a_file_is_a_thread(rt: HostRuntime) {
         acc,
         act: AccAct::Bump(cell, value),
     }));
-    assert!(rt; op_in(&bundle, 0, 0) == bump(0, 5));
-    assert!(rt; op_in(&bundle, 0, 1).is_none());
-    assert!(rt; op_in(&bundle, 1, 0) == Some(Op::Loc(LocOp::Get(Loc(1)))));
-    assert!(rt; op_in(&bundle, 1, 1) == bump(1, 6));
-    assert_eq!(rt; bundle.threads.len(), 2);
-    assert_eq!(rt; bundle.limit, 5);
+    holds(&rt, op_in(&bundle, 0, 0) == bump(0, 5));
+    holds(&rt, op_in(&bundle, 0, 1).is_none());
+    holds(
+        &rt,
+        op_in(&bundle, 1, 0) == Some(Op::Loc(LocOp::Get(Loc(1)))),
+    );
+    holds(&rt, op_in(&bundle, 1, 1) == bump(1, 6));
+    equal(&rt, bundle.threads.len(), 2);
+    equal(&rt, bundle.limit, 5);
 }
 
 #[test]
@@ -154,17 +159,19 @@ fn an_empty_file_is_a_thread_without_commands(rt: HostRuntime) {
     let Ok(bundle) = read_two(&rt, "kcas 1", "", " # nothing") else {
         panic!(rt; "they spell one");
     };
-    assert_eq!(rt; bundle.threads.len(), 2);
-    assert!(rt;
+    equal(&rt, bundle.threads.len(), 2);
+    holds(
+        &rt,
         bundle
             .threads
             .get(0)
-            .is_some_and(|commands| commands.is_empty())
+            .is_some_and(|commands| commands.is_empty()),
     );
-    assert!(rt;
+    holds(
+        &rt,
         bundle
             .threads
             .get(1)
-            .is_some_and(|commands| commands.is_empty())
+            .is_some_and(|commands| commands.is_empty()),
     );
 }

@@ -1,5 +1,6 @@
 //! Scripts that are printed.
 
+use crate::asserts::{equal, holds, holds_at};
 use crate::reading::{KINDS, read};
 use kc_model::FrailSink;
 use kc_script_printing::print;
@@ -28,12 +29,13 @@ fn stays(rt: &HostRuntime, lines: &str) -> bool {
 fn what_makes_no_difference_is_not_printed(rt: HostRuntime) {
     let text =
         "# demo\r\nkcas\t1\r\n\r\n\tloc x 05\r\n thread\n# more\nget\tx \r\nset x 0000000007\nadd x 1";
-    assert!(rt;
+    holds(
+        &rt,
         prints(
             &rt,
             text,
-            "kcas 2\nlimit 64\nloc x 5\nthread\nget x\nset x 7\nadd x 1\n"
-        )
+            "kcas 2\nlimit 64\nloc x 5\nthread\nget x\nset x 7\nadd x 1\n",
+        ),
     );
 }
 
@@ -50,7 +52,7 @@ fn each_command_is_printed(rt: HostRuntime) {
         "cancel 1\natomic\ncancel 16\nget x\nor\ncancel 2\nend\n",
     ];
     for lines in rows {
-        assert!(rt; stays(&rt, lines), "{lines}");
+        holds_at(&rt, lines, stays(&rt, lines));
     }
 }
 
@@ -64,8 +66,8 @@ fn a_limit_is_printed_where_it_is_not_the_greatest(rt: HostRuntime) {
         ("kcas 2\nlimit 256", "kcas 2\n"),
     ];
     for (text, printed) in rows {
-        assert!(rt; prints(&rt, text, printed), "{text}");
-        assert!(rt; prints(&rt, printed, printed), "{printed}");
+        holds_at(&rt, text, prints(&rt, text, printed));
+        holds_at(&rt, printed, prints(&rt, printed, printed));
     }
 }
 
@@ -73,26 +75,26 @@ fn a_limit_is_printed_where_it_is_not_the_greatest(rt: HostRuntime) {
 fn commands_on_a_cache_are_printed(rt: HostRuntime) {
     let text =
         "kcas 2\nmvar zz_9\ncache c 2 3\nthread\ncput c 1 2\ncputw c 3 4\ncget c 1\ncdel c 3\nlen c\nmtake zz_9\n";
-    assert!(rt; prints(&rt, text, text));
+    holds(&rt, prints(&rt, text, text));
 }
 
 #[test]
 fn commands_on_a_table_that_grows_are_printed(rt: HostRuntime) {
     let text =
         "kcas 2\nloc x 1\ngrow g 4\nthread\nput g 1 2\natomic\nfind g 1\nend\ndel g 3\nlen g\n";
-    assert!(rt; prints(&rt, text, text));
+    holds(&rt, prints(&rt, text, text));
 }
 
 #[test]
 fn blocks_are_printed_as_they_are_nested(rt: HostRuntime) {
     let text =
         "kcas 2\nloc x 1\nthread\natomic\nend\nthread\nget x\natomic\nget x\natomic\nset x 1\natomic\nend\nor\nend\nor\natomic\nor\nor\nset x 2\nend\nset x 3\nor\nend\nget x\nthread\n";
-    assert!(rt; prints(&rt, text, text));
+    holds(&rt, prints(&rt, text, text));
 }
 
 #[test]
 fn a_bundle_may_be_bare(rt: HostRuntime) {
-    assert!(rt; prints(&rt, "kcas 2", "kcas 2\n"));
+    holds(&rt, prints(&rt, "kcas 2", "kcas 2\n"));
 }
 
 #[test]
@@ -104,7 +106,7 @@ fn a_failed_write_is_said(rt: HostRuntime) -> Result<(), Fail> {
     let mut failing = Vec::new(rt.alloc());
     failing.push(2)?;
     let mut sink = FrailSink::new(rt.alloc(), 4096, failing)?;
-    assert!(rt; print(&bundle, &mut sink).is_err());
-    assert_eq!(rt; sink.bytes(), b"kcas 2\nloc first".as_slice());
+    holds(&rt, print(&bundle, &mut sink).is_err());
+    equal(&rt, sink.bytes(), b"kcas 2\nloc first".as_slice());
     Ok(())
 }

@@ -4,6 +4,7 @@ ghost use Rattle.std.specs.Prelude.{IfOk};
 ghost use Rattle.kc_script_bundle.specs.Script.{script_of};
 ghost use Rattle.kc_script.specs.Spells.{Spells};
 
+use crate::asserts::{equal, equal_at, holds, holds_at};
 use kc_cells::{AccAct, AccOp, Accumulator, Mvar, MvarAct, MvarOp, Promise, PromiseAct, PromiseOp};
 use kc_grow::{Grow, GrowAct, GrowOp};
 use kc_hash::{Hash, HashAct, HashOp};
@@ -80,7 +81,7 @@ fn commands_on_locations_are_read(rt: HostRuntime) {
         LocOp::Check(X, Rel::Le, 10),
     ]
     .map(|o| Op::Loc(o));
-    assert!(rt; says(&rt, lines, &ops));
+    holds(&rt, says(&rt, lines, &ops));
 }
 
 #[test]
@@ -102,7 +103,7 @@ fn commands_on_stacks_and_queues_are_read(rt: HostRuntime) {
         queued(QueueAct::Front),
         queued(QueueAct::Len),
     ];
-    assert!(rt; says(&rt, lines, &ops));
+    holds(&rt, says(&rt, lines, &ops));
 }
 
 #[test]
@@ -131,7 +132,7 @@ fn commands_on_tables_and_cells_are_read(rt: HostRuntime) {
         summed(AccAct::Bump(0, 5)),
         summed(AccAct::Total),
     ];
-    assert!(rt; says(&rt, lines, &ops));
+    holds(&rt, says(&rt, lines, &ops));
 }
 
 #[test]
@@ -142,9 +143,15 @@ fn commands_on_a_table_that_grows_are_read(rt: HostRuntime) {
         panic!(rt; "it is spelled");
     };
     let grow = Grow::layout(Loc(2), 4);
-    assert!(rt; bundle.objects.get("g").copied() == Some(Object::Grow(grow)));
+    holds(
+        &rt,
+        bundle.objects.get("g").copied() == Some(Object::Grow(grow)),
+    );
     let mvar = Mvar::layout(Loc(21));
-    assert!(rt; bundle.objects.get("m").copied() == Some(Object::Mvar(mvar)));
+    holds(
+        &rt,
+        bundle.objects.get("m").copied() == Some(Object::Mvar(mvar)),
+    );
     let ops = [
         GrowAct::Put(1, 2),
         GrowAct::Find(1),
@@ -153,7 +160,7 @@ fn commands_on_a_table_that_grows_are_read(rt: HostRuntime) {
     ]
     .map(|act| Op::Grow(GrowOp { grow, act }));
     for i in 0..ops.len() {
-        assert!(rt; op_at(&bundle, i) == Some(ops[i]));
+        holds(&rt, op_at(&bundle, i) == Some(ops[i]));
     }
 }
 
@@ -163,7 +170,7 @@ fn cancels_are_read(rt: HostRuntime) {
         live: Loc(0),
         thread,
     }));
-    assert!(rt; says(&rt, "cancel 1\ncancel 02\ncancel 16", &ops));
+    holds(&rt, says(&rt, "cancel 1\ncancel 02\ncancel 16", &ops));
 }
 
 #[test]
@@ -175,9 +182,10 @@ fn a_bundle_has_the_limit_of_its_version_or_its_line(rt: HostRuntime) {
         ("# two\nkcas 2\n\n# a limit\nlimit 0256\nloc x 1", 256),
     ];
     for (text, limit) in rows {
-        assert!(rt;
+        holds_at(
+            &rt,
+            text,
             read(&rt, text).is_ok_and(|bundle| bundle.limit == limit),
-            "{text}"
         );
     }
 }
@@ -188,9 +196,12 @@ fn blanks_and_comments_make_no_difference(rt: HostRuntime) {
     let Ok(bundle) = read(&rt, text) else {
         panic!(rt; "it is spelled");
     };
-    assert!(rt; bundle.objects.get("x").copied() == Some(Object::Loc { at: X, value: 5 }));
-    assert!(rt; op_at(&bundle, 0) == Some(Op::Loc(LocOp::Get(X))));
-    assert!(rt; op_at(&bundle, 1) == Some(Op::Loc(LocOp::Set(X, 7))));
+    holds(
+        &rt,
+        bundle.objects.get("x").copied() == Some(Object::Loc { at: X, value: 5 }),
+    );
+    holds(&rt, op_at(&bundle, 0) == Some(Op::Loc(LocOp::Get(X))));
+    holds(&rt, op_at(&bundle, 1) == Some(Op::Loc(LocOp::Set(X, 7))));
 }
 
 // The line and the reason for which the text is refused.
@@ -291,7 +302,7 @@ fn a_fault_has_its_line_and_its_reason(rt: HostRuntime) {
         ("kcas 1\nloc x 1\nthread\ncheck x is y", 4, Why::UnknownWord),
     ];
     for (text, line, why) in rows {
-        assert_eq!(rt; fault(&rt, text), Some((line, why)), "{text}");
+        equal_at(&rt, text, fault(&rt, text), Some((line, why)));
     }
 }
 
@@ -352,11 +363,12 @@ fn limits_are_kept(rt: HostRuntime) {
     ];
     for (front, line, times, limit) in rows {
         let expected = limit.map(|(line, limit)| (line, Why::TooMany(limit)));
-        assert_eq!(rt; fault_of_many(&rt, front, line, times), expected, "{front}");
+        equal_at(&rt, front, fault_of_many(&rt, front, line, times), expected);
     }
-    assert_eq!(rt;
+    equal(
+        &rt,
         fault_of_many(&rt, "", "#", MOST_BYTES),
-        Some((1, Why::Header))
+        Some((1, Why::Header)),
     );
 }
 
@@ -390,5 +402,5 @@ fn a_block_may_be_nested_eight_deep(rt: HostRuntime) {
     let Some(Command::Block(term)) = bundle.threads.first().and_then(|thread| thread.first()) else {
         panic!(rt; "it has a block");
     };
-    assert_eq!(rt; alternatives(term, 2), Some(8));
+    equal(&rt, alternatives(term, 2), Some(8));
 }

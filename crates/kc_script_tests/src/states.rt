@@ -3,6 +3,7 @@
 ghost use Rattle.std.specs.Prelude.{◌≡◌, ◌≤◌, ◌+◌, ◌∷◌, [], ℕ, List, length, IfOk};
 ghost use Rattle.kc_script_bundle.specs.Script.{names_of, base, cells, ObjectIsWithin};
 
+use crate::asserts::{equal, holds};
 use indexmap::IndexMap;
 use kc_cache::Cache;
 use kc_cells::{Accumulator, Mvar, Promise};
@@ -49,7 +50,7 @@ fn shows(
     let store = PlainStore::open(alloc, values)?;
     let mut sink = FrailSink::new(alloc, 100, Vec::new(alloc))?;
     write_state(&bundle, &store, &mut sink)?;
-    assert_eq!(rt; sink.bytes(), text.as_bytes());
+    equal(rt, sink.bytes(), text.as_bytes());
     Ok(())
 }
 
@@ -136,7 +137,7 @@ fn opens(rt: &impl Abort, alloc: Global, object: Object, values: &[u32]) -> Resu
 {
     let bundle = bundle_of(alloc, object)?;
     let opened = opening(alloc, &bundle)?;
-    assert_eq!(rt; opened.as_slice(), values);
+    equal(rt, opened.as_slice(), values);
     Ok(())
 }
 
@@ -208,11 +209,11 @@ fn a_command_is_one_operation_or_a_block(rt: HostRuntime) -> Result<(), Fail> {
     let op = |act: StackAct| Op::Stack(StackOp { stack, act });
     let push = Command::One(op(StackAct::Push(4)));
     let pop = Command::Block(Term::op(op(StackAct::PopWait)));
-    assert_eq!(rt; push.bound(), 4);
-    assert_eq!(rt; pop.bound(), 4);
-    assert_eq!(rt; pop.run(&mut xt), Err(Stop::Retry));
-    assert_eq!(rt; push.run(&mut xt), Ok(Reply::Unit));
-    assert_eq!(rt; pop.run(&mut xt), Ok(Reply::Value(4)));
+    equal(&rt, push.bound(), 4);
+    equal(&rt, pop.bound(), 4);
+    equal(&rt, pop.run(&mut xt), Err(Stop::Retry));
+    equal(&rt, push.run(&mut xt), Ok(Reply::Unit));
+    equal(&rt, pop.run(&mut xt), Ok(Reply::Value(4)));
     Ok(())
 }
 
@@ -229,15 +230,18 @@ fn a_cancel_sets_the_flag_of_its_thread(rt: HostRuntime) -> Result<(), Fail> {
     let live = Loc(0);
     let first = Op::Cancel(Cancel { live, thread: 1 });
     let last = Command::One(Op::Cancel(Cancel { live, thread: 16 }));
-    assert_eq!(rt; last.bound(), 1);
-    assert_eq!(rt; first.run(&mut xt), Ok(Reply::Unit));
-    assert_eq!(rt; last.run(&mut xt), Ok(Reply::Unit));
-    assert_eq!(rt; first.run(&mut xt), Ok(Reply::Unit));
+    equal(&rt, last.bound(), 1);
+    equal(&rt, first.run(&mut xt), Ok(Reply::Unit));
+    equal(&rt, last.run(&mut xt), Ok(Reply::Unit));
+    equal(&rt, first.run(&mut xt), Ok(Reply::Unit));
     let value = 3 + (1 << 16) + (1 << 31);
-    assert_eq!(rt; xt.get(live), Ok(value));
-    assert_eq!(rt; live_threads(value), 3);
-    assert!(rt; is_flagged(1, value) && !is_flagged(2, value) && is_flagged(16, value));
-    assert_eq!(rt; cleared(16, value), 3 + (1 << 16));
-    assert_eq!(rt; cleared(2, value), value);
+    equal(&rt, xt.get(live), Ok(value));
+    equal(&rt, live_threads(value), 3);
+    holds(
+        &rt,
+        is_flagged(1, value) && !is_flagged(2, value) && is_flagged(16, value),
+    );
+    equal(&rt, cleared(16, value), 3 + (1 << 16));
+    equal(&rt, cleared(2, value), value);
     Ok(())
 }

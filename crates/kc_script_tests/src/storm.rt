@@ -1,5 +1,6 @@
 //! The bundle of a storm.
 
+use crate::asserts::equal;
 use kc_loc::{Fun, LocOp};
 use kc_model::Loc;
 use kc_script_bundle::{Command, Op};
@@ -9,15 +10,19 @@ use std::test::Fail;
 #[test]
 fn a_storm_is_made_of_its_number(rt: HostRuntime) -> Result<(), Fail> {
     let bundle = storm(rt.alloc(), 0)?;
-    assert_eq!(rt; bundle.objects.len(), 9);
-    assert_eq!(rt; bundle.threads.len(), THREADS as usize);
+    equal(&rt, bundle.objects.len(), 9);
+    equal(&rt, bundle.threads.len(), THREADS as usize);
     for thread in &bundle.threads {
-        assert_eq!(rt; thread.len(), COMMANDS as usize);
+        equal(&rt, thread.len(), COMMANDS as usize);
     }
     let second = bundle.threads.get(1).and_then(|thread| thread.first());
     let Some(Command::One(operation)) = second else {
         return Err(Fail::from("no operation"));
     };
-    assert_eq!(rt; *operation, Op::Loc(LocOp::Modify(Loc(2), Fun::Add(61))));
+    equal(
+        &rt,
+        *operation,
+        Op::Loc(LocOp::Modify(Loc(2), Fun::Add(61))),
+    );
     Ok(())
 }
