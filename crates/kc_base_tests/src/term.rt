@@ -224,7 +224,7 @@ fn an_alternative_that_would_wait_is_rolled_back_and_its_reads_stay(
     );
     let (_, footprint) = xt.into_parts();
     equal(&rt, footprint.reads.len(), 3);
-    equal(&rt, footprint.puts.len(), 1);
+    assert_eq!(rt; footprint.puts.len(), 1);
     equal(&rt, footprint.puts[0].after, 8);
     Ok(())
 }
@@ -360,7 +360,7 @@ fn a_row_replies_each_item_and_stops_where_one_waits(rt: HostRuntime) -> Result<
         Err(Stop::Retry),
     );
     let (_, footprint) = xt.into_parts();
-    equal(&rt, footprint.puts.len(), 2);
+    assert_eq!(rt; footprint.puts.len(), 2);
     equal(&rt, footprint.puts[1].after, 9);
     Ok(())
 }
