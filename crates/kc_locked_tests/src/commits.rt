@@ -2,13 +2,13 @@
 
 ghost use Rattle.std.specs.Prelude.{◌≡◌, ◌<◌, length};
 
-use crate::asserts::{equal, holds};
 use crate::one::one;
 use kc_loc::{LocOp, Rel};
 use kc_locked::{Held, LockPass, LockedStore, Waits, answer_of};
 use kc_model::{Answer, Footprint, Loc, OpenError, Reply};
 use kc_xt::{Ended, Room, Trial};
 use std::alloc::Global;
+use std::process::Abort;
 use std::sync::Wait;
 use std::test::Fail;
 use std::thread;
@@ -41,11 +41,10 @@ fn two_threads_count(rt: HostRuntime) -> Result<(), Fail> {
         move || count(&rt, shared, first),
         move || count(&rt, shared, second),
     );
-    equal(&rt, first.left() + second.left(), 0);
-    equal(
-        &rt,
+    assert_eq!(rt; first.left() + second.left(), 0);
+    assert_eq!(rt;
         one(&rt, &store, &mut last, LocOp::Get(Loc(0))),
-        Some(Reply::Value(2000)),
+        Some(Reply::Value(2000))
     );
     passes.push(first)?;
     passes.push(second)?;
@@ -61,21 +60,20 @@ fn a_commit_that_would_wait_changes_nothing(rt: HostRuntime) -> Result<(), Fail>
     };
     let (mut room, mut trial, mut footprint) = (Room::new(), Trial::new(), Footprint::new());
     let until_one = LocOp::Check(Loc(0), Rel::Eq, 1);
-    equal(
-        &rt,
+    assert_eq!(rt;
         held.commit_into(0, 1, &mut room, &mut trial, &until_one, &mut footprint),
-        Err(Waits),
+        Err(Waits)
     );
-    equal(&rt, footprint.reads.len(), 1);
-    holds(&rt, footprint.puts.is_empty());
+    assert_eq!(rt; footprint.reads.len(), 1);
+    assert!(rt; footprint.puts.is_empty());
     let swap = LocOp::Swap(Loc(0), Loc(1));
     let swapped = held.commit_into(0, 1, &mut room, &mut trial, &swap, &mut footprint);
-    equal(&rt, swapped, Ok(()));
-    equal(&rt, answer_of(&trial), Answer::Reply(Reply::Unit));
-    equal(&rt, first_read(&footprint), Some((0, 0)));
+    assert_eq!(rt; swapped, Ok(()));
+    assert_eq!(rt; answer_of(&trial), Answer::Reply(Reply::Unit));
+    assert_eq!(rt; first_read(&footprint), Some((0, 0)));
     if let Ok(Ended::Done { reply, footprint }) = held.commit(1, 1, &LocOp::Get(Loc(0))) {
-        equal(&rt, reply, Reply::Value(5));
-        equal(&rt, first_read(&footprint), Some((1, 5)));
+        assert_eq!(rt; reply, Reply::Value(5));
+        assert_eq!(rt; first_read(&footprint), Some((1, 5)));
     } else {
         panic!(rt; "a look doesn't wait");
     }
@@ -98,22 +96,27 @@ fn refusal(alloc: Global, values: usize, shares: usize) -> Result<Option<OpenErr
     }
 }
 
+// Asserts why. In line that costs seconds to prove, and a call a fraction.
+fn refuses(rt: &impl Abort, error: Option<OpenError>, want: Option<OpenError>) {
+    assert_eq!(rt; error, want);
+}
+
 #[test]
 fn open_refuses_by_number(rt: HostRuntime) -> Result<(), Fail> {
     let alloc = rt.alloc();
-    equal(
+    refuses(
         &rt,
         refusal(alloc, 65537, 65)?,
         Some(OpenError::TooManyLocs),
     );
-    equal(
+    refuses(
         &rt,
         refusal(alloc, 65536, 65)?,
         Some(OpenError::TooManyCallers),
     );
-    equal(&rt, refusal(alloc, 3, 0)?, Some(OpenError::TooManyCallers));
-    equal(&rt, refusal(alloc, 65536, 64)?, None);
-    equal(&rt, refusal(alloc, 0, 1)?, None);
-    equal(&rt, refusal(alloc, 3, 2)?, None);
+    refuses(&rt, refusal(alloc, 3, 0)?, Some(OpenError::TooManyCallers));
+    refuses(&rt, refusal(alloc, 65536, 64)?, None);
+    refuses(&rt, refusal(alloc, 0, 1)?, None);
+    refuses(&rt, refusal(alloc, 3, 2)?, None);
     Ok(())
 }

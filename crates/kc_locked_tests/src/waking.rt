@@ -2,7 +2,6 @@
 
 ghost use Rattle.std.specs.Prelude.{◌≡◌, ◌<◌, length};
 
-use crate::asserts::{equal, holds};
 use crate::one::one;
 use crate::watched::Watched;
 use kc_loc::{LocOp, Rel};
@@ -73,7 +72,7 @@ fn four_threads_take_turns(rt: HostRuntime) -> Result<(), Fail> {
         move || take_turns_by_two(rt, shared, first, second, 0, 2),
         move || take_turns_by_two(rt, shared, third, fourth, 2, 0),
     );
-    equal(&rt, turns, ((400, 400), (400, 400)));
+    assert_eq!(rt; turns, ((400, 400), (400, 400)));
     Ok(())
 }
 
@@ -158,7 +157,7 @@ fn who_waits_sleeps(rt: HostRuntime) -> Result<(), Fail> {
         },
         move || set_late(rt, shared, second, watched),
     );
-    holds(&rt, waits.runs() >= 2);
-    holds(&rt, waits.runs() < 100);
+    assert!(rt; waits.runs() >= 2);
+    assert!(rt; waits.runs() < 100);
     Ok(())
 }
