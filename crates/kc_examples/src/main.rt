@@ -86,67 +86,163 @@ const ROOM: usize = 4096;
 
 fn main(rt: HostRuntime) -> io::Result<()> {
     let alloc = rt.alloc();
-    for (name, number) in EXAMPLES {
-        let script = fs::read(&rt, &format!(in alloc; "{name}.kcas")?)?;
-        let text = fs::read(&rt, &format!(in alloc; "{name}.txt")?)?;
-        let verdict = verdict_of(is_as_expected(&rt, alloc, script, &text, number)?);
-        println!(rt; "{name}: {verdict}")?;
-    }
-    for name in FAULTS {
-        let script = fs::read(&rt, &format!(in alloc; "faults/{name}.kcas")?)?;
-        let line = fs::read(&rt, &format!(in alloc; "faults/{name}.txt")?)?;
-        let verdict = verdict_of(has_its_line(&rt, alloc, script, &line)?);
-        println!(rt; "faults/{name}: {verdict}")?;
-    }
-    let bundle = fs::read(&rt, "checks/bundle.kcas")?;
-    for name in CHECKS {
-        let text = fs::read(&rt, &format!(in alloc; "checks/{name}.txt")?)?;
-        let line = fs::read(&rt, &format!(in alloc; "checks/{name}.line")?)?;
-        let verdict = verdict_of(fails_with_its_line(&rt, alloc, &bundle, &text, &line)?);
-        println!(rt; "checks/{name}: {verdict}")?;
-    }
-    let mut parts = Vec::new(alloc);
-    for name in PARTS {
-        parts.push((String::from_str(alloc, name)?, fs::read(&rt, name)?))?;
-    }
-    let text = fs::read(&rt, "files/text.txt")?;
-    let verdict = verdict_of(parts_are_as_expected(&rt, alloc, parts, &text)?);
-    println!(rt; "files: {verdict}")?;
+    tell_of_scripts(&rt, alloc)?;
+    tell_of_faults(&rt, alloc)?;
+    tell_of_checks(&rt, alloc)?;
+    tell_of_parts(&rt, alloc)?;
     tell_of_texts(&rt, alloc)?;
-    for hostile in &HOSTILE {
-        let verdict = verdict_of(has_its_fault(&rt, alloc, hostile)?);
-        println!(rt; "{}: {verdict}", hostile.name)?;
+    tell_of_hostile(&rt, alloc)
+}
+
+fn tell_of_scripts<R: Alloc<A = Global> + Files + Print + Threads + Wait + Sync>(
+    rt: &R,
+    alloc: Global,
+) -> io::Result<()> {
+    for (name, number) in EXAMPLES {
+        tell_of_script(rt, alloc, name, number)?;
     }
     Ok(())
 }
 
+// Says whether its text and its exit number are as they should be.
+fn tell_of_script<R: Alloc<A = Global> + Files + Print + Threads + Wait + Sync>(
+    rt: &R,
+    alloc: Global,
+    name: &str,
+    number: u8,
+) -> io::Result<()> {
+    let script = file(rt, alloc, name, "kcas")?;
+    let text = file(rt, alloc, name, "txt")?;
+    say(rt, name, is_as_expected(rt, alloc, script, &text, number)?)
+}
+
+fn tell_of_faults<R: Alloc<A = Global> + Files + Print + Threads + Wait + Sync>(
+    rt: &R,
+    alloc: Global,
+) -> io::Result<()> {
+    for name in FAULTS {
+        tell_of_fault(rt, alloc, &format!(in alloc; "faults/{name}")?)?;
+    }
+    Ok(())
+}
+
+fn tell_of_fault<R: Alloc<A = Global> + Files + Print + Threads + Wait + Sync>(
+    rt: &R,
+    alloc: Global,
+    name: &str,
+) -> io::Result<()> {
+    let script = file(rt, alloc, name, "kcas")?;
+    let line = file(rt, alloc, name, "txt")?;
+    say(rt, name, has_its_line(rt, alloc, script, &line)?)
+}
+
+fn tell_of_checks<R: Alloc<A = Global> + Files + Print + Threads + Wait + Sync>(
+    rt: &R,
+    alloc: Global,
+) -> io::Result<()> {
+    let bundle = fs::read(rt, "checks/bundle.kcas")?;
+    for name in CHECKS {
+        tell_of_check(rt, alloc, &bundle, &format!(in alloc; "checks/{name}")?)?;
+    }
+    Ok(())
+}
+
+fn tell_of_check<R: Alloc<A = Global> + Files + Print + Threads + Wait + Sync>(
+    rt: &R,
+    alloc: Global,
+    bundle: &[u8],
+    name: &str,
+) -> io::Result<()> {
+    let text = file(rt, alloc, name, "txt")?;
+    let line = file(rt, alloc, name, "line")?;
+    say(
+        rt,
+        name,
+        fails_with_its_line(rt, alloc, bundle, &text, &line)?,
+    )
+}
+
+// Says whether the script in parts has its text.
+fn tell_of_parts<R: Alloc<A = Global> + Files + Print + Threads + Wait + Sync>(
+    rt: &R,
+    alloc: Global,
+) -> io::Result<()> {
+    let mut parts = Vec::new(alloc);
+    for name in PARTS {
+        parts.push((String::from_str(alloc, name)?, fs::read(rt, name)?))?;
+    }
+    let text = fs::read(rt, "files/text.txt")?;
+    say(rt, "files", parts_are_as_expected(rt, alloc, parts, &text)?)
+}
+
 // Says whether the picked texts of `texts/` are written, and whether each fault there has its line.
-fn tell_of_texts<R: Alloc + Files + Print + Threads + Wait + Sync>(
+fn tell_of_texts<R: Alloc<A = Global> + Files + Print + Threads + Wait + Sync>(
     rt: &R,
     alloc: Global,
 ) -> io::Result<()> {
     let texts = fs::read(rt, "texts/texts.txt")?;
     let picks = fs::read(rt, "texts/picks.txt")?;
     let picked = fs::read(rt, "texts/picked.txt")?;
-    let verdict = verdict_of(are_picked(rt, alloc, &texts, &picks, &picked)?);
-    println!(rt; "texts: {verdict}")?;
+    say(rt, "texts", are_picked(rt, alloc, &texts, &picks, &picked)?)?;
+    tell_of_wrong_texts(rt, alloc, &picks)?;
+    tell_of_wrong_picks(rt, alloc, &texts)
+}
+
+fn tell_of_wrong_texts<R: Alloc<A = Global> + Files + Print + Threads + Wait + Sync>(
+    rt: &R,
+    alloc: Global,
+    picks: &[u8],
+) -> io::Result<()> {
     for name in TEXTS {
-        let wrong = fs::read(rt, &format!(in alloc; "texts/{name}.txt")?)?;
-        let line = fs::read(rt, &format!(in alloc; "texts/{name}.line")?)?;
-        let verdict = verdict_of(refuses_with_its_line(rt, alloc, &wrong, &picks, &line)?);
-        println!(rt; "texts/{name}: {verdict}")?;
-    }
-    for name in PICKS {
-        let wrong = fs::read(rt, &format!(in alloc; "texts/{name}.txt")?)?;
-        let line = fs::read(rt, &format!(in alloc; "texts/{name}.line")?)?;
-        let verdict = verdict_of(refuses_with_its_line(rt, alloc, &texts, &wrong, &line)?);
-        println!(rt; "texts/{name}: {verdict}")?;
+        let name = format!(in alloc; "texts/{name}")?;
+        let wrong = file(rt, alloc, &name, "txt")?;
+        let line = file(rt, alloc, &name, "line")?;
+        say(
+            rt,
+            &name,
+            refuses_with_its_line(rt, alloc, &wrong, picks, &line)?,
+        )?;
     }
     Ok(())
 }
 
-fn verdict_of(good: bool) -> &'static str {
-    if good { "ok" } else { "differs" }
+fn tell_of_wrong_picks<R: Alloc<A = Global> + Files + Print + Threads + Wait + Sync>(
+    rt: &R,
+    alloc: Global,
+    texts: &[u8],
+) -> io::Result<()> {
+    for name in PICKS {
+        let name = format!(in alloc; "texts/{name}")?;
+        let wrong = file(rt, alloc, &name, "txt")?;
+        let line = file(rt, alloc, &name, "line")?;
+        say(
+            rt,
+            &name,
+            refuses_with_its_line(rt, alloc, texts, &wrong, &line)?,
+        )?;
+    }
+    Ok(())
+}
+
+fn tell_of_hostile<R: Print + Threads + Wait + Sync>(rt: &R, alloc: Global) -> io::Result<()> {
+    for hostile in &HOSTILE {
+        say(rt, hostile.name, has_its_fault(rt, alloc, hostile)?)?;
+    }
+    Ok(())
+}
+
+fn file<R: Alloc<A = Global> + Files>(
+    rt: &R,
+    alloc: Global,
+    name: &str,
+    ending: &str,
+) -> io::Result<Vec<u8>> {
+    fs::read(rt, &format!(in alloc; "{name}.{ending}")?)
+}
+
+fn say<R: Print>(rt: &R, name: &str, good: bool) -> io::Result<()> {
+    let verdict = if good { "ok" } else { "differs" };
+    println!(rt; "{name}: {verdict}")
 }
 
 fn is_as_expected<R: Threads + Wait + Sync>(
