@@ -32,6 +32,7 @@ use Rattle.kc_hang.proofs.kc_table_laws.Running.{does_ran}
 use Rattle.kc_hang.proofs.kc_table_laws.Stopping.{free_ran, halted_ends}
 use Rattle.kc_hang.specs.kc_table_laws.Halts.{is_halted, may_halt, steps_left, was_halted}
 use Rattle.kc_hang.specs.kc_table_laws.Tasks.{DoesTask}
+use Rattle.kc_table.specs.Swaps.{OwesSignals, work_owes}
 use Rattle.kc_xt.specs.Peeks.{IsLook}
 use Rattle.kc_xt.specs.declared.peek.PeekBusy.{PeekBusy}
 
@@ -149,6 +150,18 @@ is_look v w l r below d says =
     let at : r.loc.0 ≡ l.0 = ap (λ (x : Loc). x.0) saw.of in
     let there : w.of.origin.locations ≡ v.of.origin.locations = ap (λ z. z.origin.locations) d.of in
     record { asked = at; version = known_fits (opening_at_seat w) w.past (does_meant v w (task.Look l) d) r (omega (arith, below, at, there)) saw.known }
+
+-- a swap that owes signals runs on
+pub owing_busy : (s : Seat) → OwesSignals s → is_idle s.work ≡ false
+owing_busy s owes = go s.work owes
+  where
+    go : (x : Work) → work_owes x ≡ true → is_idle x ≡ false
+    go work.Idle e = absurd (cc)
+    go (work.Look y) e = refl
+    go (work.Commit y) e = refl
+    go (work.Hang y) e = refl
+    go (work.Leave y) e = refl
+    go (work.Swap y) e = refl
 
 -- ---- tests
 

@@ -121,7 +121,18 @@ fn only_put(lines: &[Line], worn: bool) -> Option<(Seen, u32)>
         return None;
     }
     let line = lines[0];
-    line.put.map(|after| (line.seen, after))
+    // Field by field, as they were written: a load of two fields behind a store of one waits.
+    let Seen {
+        loc,
+        version,
+        value,
+    } = line.seen;
+    let seen = Seen {
+        loc,
+        version,
+        value,
+    };
+    line.put.map(|after| (seen, after))
 }
 
 // One swap.
@@ -137,12 +148,13 @@ fn swap(table: &KcTable, seat: &mut KcSeat, seen: Seen, after: u32, budget: Budg
     if !budget.has_steps(seat) {
         return Told::Halted;
     }
-    table.swap(seat, seen, after);
-    if seat.busy() {
-        end_task(table, seat, budget);
-        return answer_of(seat);
+    match table.swap(seat, seen, after) {
+        Some(told) => told,
+        None => {
+            end_task(table, seat, budget);
+            answer_of(seat)
+        }
     }
-    answer_of(seat)
 }
 
 // In mode Light, and where that was crossed once more in mode All.

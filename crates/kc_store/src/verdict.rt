@@ -93,20 +93,23 @@ pub(crate) fn note_worn(worn: &mut bool, fate: Fate)
     }
 }
 
-/// The answer of a commit whose try is final.
+/// The answer of a commit whose try is final. Each return writes it where it is wanted; an arm that is a `match` of its own
+/// would copy it, with room for sixteen items, once more.
+#[inline(always)]
 pub(crate) fn answer_on(fate: Fate, trial: &Trial) -> Answered
     requires { is_final (verdict_as fate (tried_of trial.now.went trial.now.reply)) ≡ true }
     ensures { verdict_of result ≡ verdict_as fate (tried_of trial.now.went trial.now.reply) }
 {
     match fate {
-        Fate::Entered { .. } => match trial.went {
-            Went::Done => Answered::Done(trial.reply),
-            Went::Later => Answered::Later,
-            Went::TooLarge => Answered::TooLarge,
-            Went::Worn(loc) => Answered::WornLocation(loc),
-            Went::Busy => unreachable!("a look that was given up has no entry"),
-        },
-        Fate::WornPool => Answered::WornPool,
+        Fate::Entered { .. } => {}
+        Fate::WornPool => return Answered::WornPool,
         Fate::Lost { .. } | Fate::Busy { .. } => unreachable!("it is tried again"),
+    }
+    match trial.went {
+        Went::Done => return Answered::Done(trial.reply),
+        Went::Later => return Answered::Later,
+        Went::TooLarge => return Answered::TooLarge,
+        Went::Worn(loc) => return Answered::WornLocation(loc),
+        Went::Busy => unreachable!("a look that was given up has no entry"),
     }
 }

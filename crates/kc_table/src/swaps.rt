@@ -1,8 +1,9 @@
 //! A swap in one call: one exchange, and a wake. The seat is written once.
 
-ghost use Rattle.std.specs.Prelude.{◌≡◌, ◌⊎◌, ◌+◌, ◌≤◌, ◌<◌, ℕ, false, true};
-ghost use Rattle.kc_model.specs.Word.{packed};
+ghost use Rattle.std.specs.Prelude.{◌≡◌, ◌+◌, ◌≤◌, ◌<◌, ℕ, IfNone, IfSome, Some, false, true};
+ghost use Rattle.kc_model.specs.Word.{IsPackable, packed, unpacked};
 ghost use Rattle.kc_model.specs.declared.footprint.TheConstants.{LAST_VERSION};
+ghost use Rattle.kc_model.specs.declared.word.Word.{Word as WordValue};
 ghost use Rattle.kc_model.specs.declared.word.Word.TheVariants.{Plain};
 ghost use Rattle.kc_machine_words.specs.declared.access.Found.TheVariants as found;
 ghost use Rattle.kc_machine_steps.specs.Swaps.{may_swap, seen_word, word_after};
@@ -30,16 +31,18 @@ use std::marker::Brand;
 impl KcTable {
     /// Puts a value at a location by one exchange, where the word that was seen stands there, and wakes who awaits it. The
     /// seat is told that it succeeded; or Failed, where another value stands there; or Crossed, where a reference does.
-    /// From `MOST_SWAPS` calls on it only looks, and is told Crossed where it would have put. It stops short only where it
-    /// has to signal somebody; from there it goes on by `step` until the seat is told. One of its loads at most is no step.
+    /// From `MOST_SWAPS` calls on it only looks, and is told Crossed where it would have put. Answers what the seat is told. It
+    /// stops short, with None, only where it has to signal somebody; from there it goes on by `step` until the seat is told. One of
+    /// its loads at most is no step.
     #[inline(always)]
-    pub fn swap(&self, seat: &mut KcSeat, seen: Seen, after: u32)
+    pub fn swap(&self, seat: &mut KcSeat, seen: Seen, after: u32) -> Option<Told>
         requires table { seat.old.of ≡ self.now }
         requires idle { is_idle seat.old.seat.work ≡ true }
         requires made { IsWellMadeTask seat.old.of.origin.locations (task.Swap seen after) }
         requires known { KnowsReads seat.old (task.Swap seen after) }
         ensures ran { Ran seat.old (task.Swap seen after) seat.new }
-        ensures onward { (is_idle seat.new.seat.work ≡ true) ⊎ OwesSignals seat.new.seat }
+        ensures told { IfSome result (λ t. (is_idle seat.new.seat.work ≡ true) × (seat.new.seat.told ≡ Some t)) }
+        ensures owes { IfNone result (OwesSignals seat.new.seat) }
         ensures loads { seat.new.loads ≤ seat.old.loads + 1 }
     {
         let words = &self.words;
@@ -54,19 +57,17 @@ impl KcTable {
             base,
             at,
         );
-        let now = Word::unpack(number);
         seat.began = false;
-        if !puts(seat.machine.calls(), seen, now) {
-            tell(&mut seat.machine, seen, after, now);
-            return;
+        if !puts(seat.machine.calls(), seen, number) {
+            return Some(tell(&mut seat.machine, seen, after, Word::unpack(number)));
         }
         let at = awaiters_at(seen.loc);
         let owed = wake::<Brand>(words, &mut seat.token, &seat.machine, seen, after, base, at);
         if owed == 0 {
-            end_swap(&mut seat.machine, seen, after);
-        } else {
-            owe(&mut seat.machine, seen, after, owed);
+            return Some(end_swap(&mut seat.machine, seen, after));
         }
+        owe(&mut seat.machine, seen, after, owed);
+        None
     }
 }
 
@@ -84,19 +85,6 @@ fn may_swap(calls: u64) -> bool
     calls < MOST_SWAPS
 }
 
-// Whether a swap that finds this word puts its own.
-#[inline(always)]
-fn puts(calls: u64, seen: Seen, now: Word) -> bool
-    ensures { result ≡ swap_puts calls seen now }
-{
-    match now {
-        Word::Plain { version, value } => {
-            version == seen.version && value == seen.value && may_swap(calls)
-        }
-        Word::Ref { .. } => false,
-    }
-}
-
 // What was seen, as bits.
 #[inline(always)]
 fn bits_before(seen: Seen) -> u64
@@ -108,6 +96,16 @@ fn bits_before(seen: Seen) -> u64
         value: seen.value,
     }
     .pack()
+}
+
+// Whether a swap that finds a word of these bits puts its own. One comparison tells: bits say all of a word.
+#[inline(always)]
+fn puts(calls: u64, seen: Seen, number: u64) -> bool
+    requires { seen.version < LAST_VERSION }
+    ensures value { result ≡ swap_puts calls seen (unpacked number) }
+    ensures back { (w : WordValue) → IsPackable w → packed w ≡ number → unpacked number ≡ w }
+{
+    number == bits_before(seen) && may_swap(calls)
 }
 
 // What is put, as bits.
@@ -176,23 +174,35 @@ fn wake<B: Asks>(
 // A swap that put nothing is told why.
 #[cold]
 #[inline(never)]
-fn tell(seat: &mut Seat, seen: Seen, after: u32, now: Word)
-    ensures { seat.new ≡ seat_answered (begun seat.old (task.Swap seen after)) (found.Word now) }
+fn tell(seat: &mut Seat, seen: Seen, after: u32, now: Word) -> Told
+    requires idle { is_idle seat.old.work ≡ true }
+    requires other { swap_puts seat.old.calls seen now ≡ false }
+    ensures seat { seat.new ≡ seat_answered (begun seat.old (task.Swap seen after)) (found.Word now) }
+    ensures idle { is_idle seat.new.work ≡ true }
+    ensures told { seat.new.told ≡ Some result }
 {
     seat.begin(&Task::Swap { seen, after });
     seat.answer(&Found::Word(now));
+    match seat.told() {
+        Some(told) => told,
+        None => unreachable!("a swap that put nothing has ended"),
+    }
 }
 
 #[inline(always)]
-fn end_swap(seat: &mut Seat, seen: Seen, after: u32)
+fn end_swap(seat: &mut Seat, seen: Seen, after: u32) -> Told
     requires idle { is_idle seat.old.work ≡ true }
     requires low { may_swap seat.old.calls ≡ true }
-    ensures { seat.new ≡ seat_answered (seat_answered (begun seat.old (task.Swap seen after)) (found.Word (seen_word seen))) (found.Callers 0) }
+    ensures idle { is_idle seat.new.work ≡ true }
+    ensures told { seat.new.told ≡ Some result }
+    ensures seat { seat.new ≡ seat_answered (seat_answered (begun seat.old (task.Swap seen after)) (found.Word (seen_word seen))) (found.Callers 0) }
 {
     let _ = after;
     let made = one_more(one_more(seat.steps()));
     let calls = one_more(seat.calls());
-    seat.end_with(made, calls, Told::Succeeded { number: calls });
+    let told = Told::Succeeded { number: calls };
+    seat.end_with(made, calls, told);
+    told
 }
 
 // A swap that owes signals. Its task is large, and so stays out of the caller.

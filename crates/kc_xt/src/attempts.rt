@@ -1,6 +1,6 @@
 //! Attempts: a transaction on an empty log, and what may be committed of it.
 
-ghost use Rattle.std.specs.Prelude.{◌≡◌, ◌≢◌, ◌≤◌, List, Ok, Err};
+ghost use Rattle.std.specs.Prelude.{◌≡◌, ◌≢◌, ◌≤◌, List, Ok, Err, IfOk, IfErr};
 ghost use Rattle.kc_model.specs.declared.footprint.Footprint.{Footprint as Print};
 ghost use Rattle.kc_model.specs.declared.plain_store.Cell.{Cell};
 ghost use Rattle.kc_model.specs.Footprint.{IsBelow, IsWellMade};
@@ -78,13 +78,27 @@ fn settle<P: Peek>(
     ensures lines { IsOfLines (tried_of result reply.new) xt.new.lines footprint.new }
     ensures log { xt.new ≡ record xt.old { lines = xt.new.lines } }
 {
-    match answer {
-        Ok(made) => {
-            *reply = made;
-            settle_done(xt, footprint)
-        }
+    match keep(answer, reply) {
+        Ok(()) => settle_done(xt, footprint),
         Err(stop) => settle_stopped(xt, stop, footprint),
     }
+}
+
+// Keeps the reply of a run that replied. The small kinds are written each by itself: a copy of a reply as a whole has room for
+// sixteen items, which an operation known only as the program runs would have in memory.
+#[inline(always)]
+fn keep(answer: Result<Reply, Stop>, reply: &mut Reply) -> Result<(), Stop>
+    ensures ok { IfOk result (λ _. answer ≡ Ok reply.new) }
+    ensures stopped { IfErr result (λ stop. answer ≡ Err stop) }
+{
+    match answer {
+        Ok(Reply::Unit) => *reply = Reply::Unit,
+        Ok(Reply::Value(value)) => *reply = Reply::Value(value),
+        Ok(Reply::Bool(is)) => *reply = Reply::Bool(is),
+        Ok(made) => *reply = made,
+        Err(stop) => return Err(stop),
+    }
+    Ok(())
 }
 
 // Of a run that replied.

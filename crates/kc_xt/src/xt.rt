@@ -98,8 +98,36 @@ impl<'a, P: Peek> Xt<'a, P> {
         }
     }
 
+    // The same, and the line is made in line: for what a transaction may do alone.
+    #[inline(always)]
+    fn touch_in_line(&mut self, loc: Loc) -> Result<usize, Stop>
+        requires { loc.0 < P.locations self.old.peek }
+        ensures step { Touches P.peek_gives loc.0 self.old (stop_of result) self.new }
+        ensures place { IfOk result (λ i. IsPlace self.new.lines loc.0 i) }
+        ensures size { P.locations self.new.peek ≡ P.locations self.old.peek }
+    {
+        match find(self.room.as_slice(), loc.0) {
+            Ok(at) => Ok(at),
+            Err(at) => {
+                self.add_in_line(loc, at)?;
+                Ok(at)
+            }
+        }
+    }
+
     // Makes the line of a location that has none, at its place. It is not in line, so that what touches a location is small enough to be.
     fn add(&mut self, loc: Loc, at: usize) -> Result<(), Stop>
+        requires location { loc.0 < P.locations self.old.peek }
+        requires missing { IsMissing self.old.lines loc.0 at }
+        ensures step { Touches P.peek_gives loc.0 self.old (stop_of result) self.new }
+        ensures place { IfOk result (λ _. IsPlace self.new.lines loc.0 at) }
+        ensures size { P.locations self.new.peek ≡ P.locations self.old.peek }
+    {
+        self.add_in_line(loc, at)
+    }
+
+    #[inline(always)]
+    fn add_in_line(&mut self, loc: Loc, at: usize) -> Result<(), Stop>
         requires location { loc.0 < P.locations self.old.peek }
         requires missing { IsMissing self.old.lines loc.0 at }
         ensures step { Touches P.peek_gives loc.0 self.old (stop_of result) self.new }
@@ -118,6 +146,18 @@ impl<'a, P: Peek> Xt<'a, P> {
         }
     }
 
+    // What the location, whose line stands here, reads as.
+    #[inline(always)]
+    fn found(&self, _loc: Loc, at: usize) -> Found
+        requires { IsPlace self.now.lines _loc.0 at }
+        ensures at { result.at ≡ at }
+        ensures value { ReadsAs self.now.lines _loc.0 result.value }
+    {
+        let line = self.room.as_slice()[at];
+        let value = line.put.unwrap_or(line.seen.value);
+        Found { at, value }
+    }
+
     // The place and the value of the location's line, which is made where there is none.
     #[inline(always)]
     fn look_up(&mut self, loc: Loc) -> Result<Found, Stop>
@@ -128,9 +168,7 @@ impl<'a, P: Peek> Xt<'a, P> {
         ensures size { P.locations self.new.peek ≡ P.locations self.old.peek }
     {
         let at = self.touch(loc)?;
-        let line = self.room.as_slice()[at];
-        let value = line.put.unwrap_or(line.seen.value);
-        Ok(Found { at, value })
+        Ok(self.found(loc, at))
     }
 
     // Gives the location, whose line stands here, a new value.
@@ -265,9 +303,10 @@ impl<'a, P: Peek> Xt<'a, P> {
         ensures goes { Does P.peek_gives (fetches_and_adds loc.0 n) self.old result self.new }
         ensures size { P.locations self.new.peek ≡ P.locations self.old.peek }
     {
-        let found = self.look_up(loc)?;
-        self.put_at(loc, found.at, found.value.wrapping_add(n));
-        Ok(found.value)
+        let at = self.touch_in_line(loc)?;
+        let value = self.found(loc, at).value;
+        self.put_at(loc, at, value.wrapping_add(n));
+        Ok(value)
     }
 
     /// How many lines it has.
@@ -298,6 +337,7 @@ impl<'a, P: Peek> Xt<'a, P> {
     }
 
     /// Makes the footprint one of what all lines saw, and of the new values.
+    #[inline(always)]
     pub fn fill(&self, footprint: &mut Footprint)
         ensures reads { footprint.new.reads.items ≡ seens self.now.lines }
         ensures puts { footprint.new.puts.items ≡ puts self.now.lines }

@@ -44,7 +44,7 @@ returns-in-Ref-clause-ran c =
     let u = c.look_on.new.seat in
     let idle : is_idle s.work ≡ true = ap (λ (v : SeatView). is_idle v.seat.work) c.seat.view_is ∙ c.requires.idle in
     look_ran c.seat.inside.token.table_id c.load_look-number.new.token.table_id me later c.seat.inside.began s u c.args.seat.now c.args.loc n idle c.seat.view_is c.load_look-number.ensures.table c.load_look-number.ensures.moved
-    (look_stands s u me later c.args.loc n c.unpack-word.result idle c.load_look-number.ensures.moved c.unpack-word.ensures.back c.look_on.ensures)
+    (look_stands s u me later c.args.loc n c.unpack-in-Ref.result idle c.load_look-number.ensures.moved c.unpack-in-Ref.ensures.back c.look_on.ensures)
 
 pub returns-in-Plain-clause-once : goal.returns-in-Plain-clause-once
 returns-in-Plain-clause-once c =
@@ -66,4 +66,4 @@ returns-in-Ref-clause-once c =
     let u = c.look_on.new.seat in
     let idle : is_idle s.work ≡ true = ap (λ (v : SeatView). is_idle v.seat.work) c.seat.view_is ∙ c.requires.idle in
     look_steps c.seat.inside.token.table_id c.load_look-number.new.token.table_id me later c.seat.inside.began s u c.args.seat.now c.args.loc n c.seat.view_is c.load_look-number.ensures.table c.load_look-number.ensures.moved
-    (look_stands s u me later c.args.loc n c.unpack-word.result idle c.load_look-number.ensures.moved c.unpack-word.ensures.back c.look_on.ensures)
+    (look_stands s u me later c.args.loc n c.unpack-in-Ref.result idle c.load_look-number.ensures.moved c.unpack-in-Ref.ensures.back c.look_on.ensures)

@@ -2,6 +2,7 @@ use Rattle.std.proofs.Common.{◌∙◌, ap, arith, sym}
 use Rattle.kc_machine.specs.Seats.{seat_answered, is_idle}
 use Rattle.kc_machine_steps.specs.Swaps.{may_swap}
 use Rattle.kc_machine_steps.specs.declared.task.Task.TheVariants as task
+use Rattle.kc_model.specs.Word.{unpacked}
 use Rattle.kc_machine_words.specs.declared.access.Found.TheVariants as found
 use Rattle.kc_table.proofs.Begins.{ready_begun}
 use Rattle.kc_table.proofs.Swapping.{puts_seen, second, swap_busy, told_at_once, told_behind}
@@ -21,26 +22,26 @@ pub returns-then-not-puts-clause-ran : goal.returns-then-not-puts-clause-ran
 returns-then-not-puts-clause-ran c =
     let s = c.seat.inside.machine in
     let idle = ap (λ (v : SeatView). is_idle v.seat.work) c.seat.view_is ∙ c.requires.idle in
-    told_at_once s c.args.seen c.args.after idle c.seat.inside.token.me c.try_word-number.new.token.me c.try_word-number.result c.unpack-now.result c.try_word-number.ensures.moved c.unpack-now.ensures.back
-    c.seat.inside.token.table_id c.try_word-number.new.token.table_id c.try_word-number.ensures.table c.seat.inside.began c.args.seat.now c.tell.new.seat c.seat.view_is c.tell.ensures
+    told_at_once s c.args.seen c.args.after idle c.seat.inside.token.me c.try_word-number.new.token.me c.try_word-number.result c.unpack.result c.try_word-number.ensures.moved c.unpack.ensures.back
+    c.seat.inside.token.table_id c.try_word-number.new.token.table_id c.try_word-number.ensures.table c.seat.inside.began c.args.seat.now c.tell.new.seat c.seat.view_is c.tell.ensures.seat
 
 pub returns-then-owed-eq0-clause-ran : goal.returns-then-owed-eq0-clause-ran
 returns-then-owed-eq0-clause-ran c =
     let s = c.seat.inside.machine in
     let idle = ap (λ (v : SeatView). is_idle v.seat.work) c.seat.view_is ∙ c.requires.idle in
-    let put = puts_seen c.calls.result c.args.seen c.unpack-now.result (sym c.puts.ensures ∙ c.if-not-puts.false) in
+    let put = puts_seen c.calls.result c.args.seen (unpacked c.try_word-number.result) (sym c.puts.ensures.value ∙ c.if-not-puts.false) in
     told_behind s c.args.seen c.args.after idle (ap may_swap (sym c.calls.ensures) ∙ put.1) c.try_word-number.new.token.me c.wake-owed.new.token.me c.wake-owed.result c.wake-owed.ensures.moved
     c.seat.inside.token.table_id c.try_word-number.new.token.table_id c.wake-owed.new.token.table_id c.seat.inside.token.me c.try_word-number.result c.seat.inside.began c.args.seat.now c.end_swap.new.seat
-    c.try_word-number.ensures.table c.wake-owed.ensures.table c.try_word-number.ensures.moved (λ w p e. sym put.0 ∙ c.unpack-now.ensures.back w p e) c.seat.view_is (c.end_swap.ensures ∙ ap (λ n. seat_answered (second s c.args.seen c.args.after idle) (found.Callers n)) (sym c.if-owed-eq0.true))
+    c.try_word-number.ensures.table c.wake-owed.ensures.table c.try_word-number.ensures.moved (λ w p e. sym put.0 ∙ c.puts.ensures.back w p e) c.seat.view_is (c.end_swap.ensures.seat ∙ ap (λ n. seat_answered (second s c.args.seen c.args.after idle) (found.Callers n)) (sym c.if-owed-eq0.true))
 
-pub returns-else-owed-eq0-clause-ran : goal.returns-else-owed-eq0-clause-ran
-returns-else-owed-eq0-clause-ran c =
+pub returns-clause-ran : goal.returns-clause-ran
+returns-clause-ran c =
     let s = c.seat.inside.machine in
     let idle = ap (λ (v : SeatView). is_idle v.seat.work) c.seat.view_is ∙ c.requires.idle in
-    let put = puts_seen c.calls.result c.args.seen c.unpack-now.result (sym c.puts.ensures ∙ c.if-not-puts.false) in
+    let put = puts_seen c.calls.result c.args.seen (unpacked c.try_word-number.result) (sym c.puts.ensures.value ∙ c.if-not-puts.false) in
     told_behind s c.args.seen c.args.after idle (ap may_swap (sym c.calls.ensures) ∙ put.1) c.try_word-number.new.token.me c.wake-owed.new.token.me c.wake-owed.result c.wake-owed.ensures.moved
     c.seat.inside.token.table_id c.try_word-number.new.token.table_id c.wake-owed.new.token.table_id c.seat.inside.token.me c.try_word-number.result c.seat.inside.began c.args.seat.now c.owe.new.seat
-    c.try_word-number.ensures.table c.wake-owed.ensures.table c.try_word-number.ensures.moved (λ w p e. sym put.0 ∙ c.unpack-now.ensures.back w p e) c.seat.view_is c.owe.ensures
+    c.try_word-number.ensures.table c.wake-owed.ensures.table c.try_word-number.ensures.moved (λ w p e. sym put.0 ∙ c.puts.ensures.back w p e) c.seat.view_is c.owe.ensures
 
 pub returns-then-not-puts-clause-loads : goal.returns-then-not-puts-clause-loads
 returns-then-not-puts-clause-loads c =
@@ -57,8 +58,8 @@ returns-then-owed-eq0-clause-loads c =
     let seen = ap (λ v. v.loads) c.seat.view_is in
     omega arith
 
-pub returns-else-owed-eq0-clause-loads : goal.returns-else-owed-eq0-clause-loads
-returns-else-owed-eq0-clause-loads c =
+pub returns-clause-loads : goal.returns-clause-loads
+returns-clause-loads c =
     let first = ap (λ m. loads_of m.0.parts) c.try_word-number.ensures.moved.1 in
     let wake = c.wake-owed.ensures.moved in
     let few = wake.1 in

@@ -2,8 +2,8 @@ use Rattle.std.proofs.Common.{◌≡◌, length, ap, sym, subst, ◌∙◌, arit
 use Rattle.kc_xt.proofs.Places.{inserted, is_place_new, rising-with_line, versions-with_line, length-with_line, place-within}
 use Rattle.kc_xt.specs.Calls.{looked, no_answer, IsMissing}
 use Rattle.kc_xt.specs.Lines.{with_line, seen_line}
-use Rattle.kc_xt.proofs.xt.Xt.add.Goals as goal
-use Rattle.kc_xt.proofs.xt.Xt.add.Goals.{After-insert}
+use Rattle.kc_xt.proofs.xt.Xt.add_in_line.Goals as goal
+use Rattle.kc_xt.proofs.xt.Xt.add_in_line.Goals.{After-insert}
 
 pub insert-requires-clause-place : goal.insert-requires-clause-place
 insert-requires-clause-place g c =
