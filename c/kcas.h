@@ -364,21 +364,19 @@ static inline uint32_t kcas_add_once(kcas_bell *bell, kcas_caller *caller, uint3
     return answer;
 }
 
-/* The tries behind a first one that was lost or given up. */
-KCAS_SELDOM uint32_t kcas_try_on(kcas_bell *bell, kcas_caller *caller, const kcas_op *ops, size_t count, kcas_reply *replies, size_t room) {
-    uint32_t answer, pauses = 16;
-    do {
+/* The tries behind a first one that wasn't done: none where it was neither lost nor given up. */
+KCAS_SELDOM uint32_t kcas_try_on(kcas_bell *bell, kcas_caller *caller, const kcas_op *ops, size_t count, kcas_reply *replies, size_t room, uint32_t answer) {
+    for (uint32_t pauses = 16; kcas_missed(answer);) {
         kcas_back_off(&pauses);
         answer = kcas_try_once(bell, caller, ops, count, replies, room);
-    } while (kcas_missed(answer));
+    }
     return answer;
 }
-KCAS_SELDOM uint32_t kcas_add_on(kcas_bell *bell, kcas_caller *caller, uint32_t location, uint32_t number, uint32_t *before) {
-    uint32_t answer, pauses = 16;
-    do {
+KCAS_SELDOM uint32_t kcas_add_on(kcas_bell *bell, kcas_caller *caller, uint32_t location, uint32_t number, uint32_t *before, uint32_t answer) {
+    for (uint32_t pauses = 16; kcas_missed(answer);) {
         kcas_back_off(&pauses);
         answer = kcas_add_once(bell, caller, location, number, before);
-    } while (kcas_missed(answer));
+    }
     return answer;
 }
 
@@ -386,7 +384,7 @@ KCAS_SELDOM uint32_t kcas_add_on(kcas_bell *bell, kcas_caller *caller, uint32_t 
 static inline uint32_t kcas_commit_quietly(kcas_bell *bell, kcas_caller *caller, const kcas_op *ops, size_t count, kcas_reply *replies, size_t room) {
     kcas_enter(caller);
     uint32_t answer = kcas_try_once(bell, caller, ops, count, replies, room);
-    if (kcas_missed(answer)) answer = kcas_try_on(bell, caller, ops, count, replies, room);
+    if (answer != KCAS_DONE) answer = kcas_try_on(bell, caller, ops, count, replies, room, answer);
     kcas_exit(caller);
     return answer;
 }
@@ -403,7 +401,7 @@ static inline uint32_t kcas_commit(kcas_bell *bell, kcas_caller *caller, const k
 static inline uint32_t kcas_commit_add(kcas_bell *bell, kcas_caller *caller, uint32_t location, uint32_t number, uint32_t *before) {
     kcas_enter(caller);
     uint32_t answer = kcas_add_once(bell, caller, location, number, before);
-    if (kcas_missed(answer)) answer = kcas_add_on(bell, caller, location, number, before);
+    if (answer != KCAS_DONE) answer = kcas_add_on(bell, caller, location, number, before, answer);
     kcas_exit(caller);
     kcas_ring(bell, answer);
     return answer;
