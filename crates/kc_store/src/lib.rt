@@ -12,8 +12,6 @@ mod reading;
 mod sole_peek;
 mod store;
 mod tasks;
-#[cfg(test)]
-mod tests;
 mod trying;
 mod values;
 mod verdict;

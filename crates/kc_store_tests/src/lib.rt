@@ -4,6 +4,8 @@
 #[cfg(test)]
 mod asserts;
 #[cfg(test)]
+mod overtaken;
+#[cfg(test)]
 mod reading;
 #[cfg(test)]
 mod sole;

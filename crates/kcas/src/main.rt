@@ -7,6 +7,8 @@ ghost use Rattle.std.specs.Prelude.{map};
 ghost use Rattle.std.specs.String.{string_bytes};
 ghost use Rattle.kcas.specs.Ends.{RunsOn};
 
+#[cfg(test)]
+mod asserts;
 mod dir_shelf;
 mod ends;
 mod line;

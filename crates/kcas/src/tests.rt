@@ -1,3 +1,4 @@
+use crate::asserts::{equal, holds};
 use crate::line::report;
 use crate::words::words_of;
 use kc_script_lines::Why;
@@ -53,8 +54,8 @@ fn each_status_has_its_line_and_its_exit_number(rt: HostRuntime) -> Result<(), F
         let kept = KeptText(RefCell::new(String::new(rt.alloc())));
         let code = report(&kept, status);
         let KeptText(text) = kept;
-        assert_eq!(rt; text.into_inner().as_str(), printed);
-        assert!(rt; code == ExitCode::from(number), "{printed}");
+        equal(&rt, text.into_inner().as_str(), printed);
+        holds(&rt, code == ExitCode::from(number));
     }
     Ok(())
 }
@@ -91,10 +92,13 @@ fn a_word_that_is_not_utf8_is_no_command(rt: HostRuntime) -> Result<(), Fail> {
     let alloc = rt.alloc();
     let words = words_of(alloc, env::args(&(OneWord(b"run"), alloc)));
     let is_run = matches!(&words, Ok(words) if words.len() == 2 && words[1].as_str() == "run");
-    assert!(rt; is_run);
+    holds(&rt, is_run);
     let words = words_of(alloc, env::args(&(OneWord(b"r\xffn"), alloc)));
-    assert!(rt; matches!(&words, Err(Status::Usage)));
+    holds(&rt, matches!(&words, Err(Status::Usage)));
     let none = io::Error::from(io::ErrorKind::OutOfMemory);
-    assert!(rt; matches!(&words_of(alloc, Err(none)), Err(Status::NoMemory)));
+    holds(
+        &rt,
+        matches!(&words_of(alloc, Err(none)), Err(Status::NoMemory)),
+    );
     Ok(())
 }

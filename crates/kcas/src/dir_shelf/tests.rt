@@ -1,6 +1,7 @@
 ghost use Rattle.std.specs.Prelude.{◌≤◌, length, IfOk};
 
 use super::DirShelf;
+use crate::asserts::{equal, holds};
 use crate::ends::{StdinSource, StdoutSink};
 use crate::run_on;
 use kc_model::{Shelf, ShelfError};
@@ -174,7 +175,7 @@ fn a_file_that_cannot_be_read_whole_is_a_read_fault(rt: HostRuntime) -> Result<(
         ("growing", Status::TooLong),
     ];
     for (file, status) in rows {
-        assert_eq!(rt; run_files(&rt, rt.alloc(), file)?, status, "{file}");
+        equal(&rt, run_files(&rt, rt.alloc(), file)?, status);
     }
     Ok(())
 }
@@ -185,18 +186,20 @@ fn a_file_has_at_most_the_limit(rt: HostRuntime) -> Result<(), Fail> {
     let mut shelf = DirShelf::new(FewFiles);
     let fits =
         matches!(&shelf.fetch(alloc, "one\nline", 7), Ok(file) if file.as_slice() == b"incr x\n".as_slice());
-    assert!(rt; fits);
-    assert!(rt;
+    holds(&rt, fits);
+    holds(
+        &rt,
         matches!(
             &shelf.fetch(alloc, "one\nline", 6),
             Err(ShelfError::TooLong)
-        )
+        ),
     );
-    assert!(rt;
+    holds(
+        &rt,
         matches!(
             &shelf.fetch(alloc, "growing", 1000),
             Err(ShelfError::TooLong)
-        )
+        ),
     );
     Ok(())
 }
@@ -205,25 +208,34 @@ fn a_file_has_at_most_the_limit(rt: HostRuntime) -> Result<(), Fail> {
 fn the_files_of_the_system_are_read(rt: HostRuntime) -> Result<(), Fail> {
     let alloc = rt.alloc();
     let mut shelf = DirShelf::new(&rt);
-    assert!(rt; matches!(&shelf.fetch(alloc, "/dev/null", 0), Ok(file) if file.is_empty()));
-    assert!(rt;
+    holds(
+        &rt,
+        matches!(&shelf.fetch(alloc, "/dev/null", 0), Ok(file) if file.is_empty()),
+    );
+    holds(
+        &rt,
         matches!(
             &shelf.fetch(alloc, "/dev/zero", 5000),
             Err(ShelfError::TooLong)
-        )
+        ),
     );
-    assert!(rt; matches!(&shelf.fetch(alloc, "/", 5000), Err(ShelfError::Failed)));
-    assert!(rt;
+    holds(
+        &rt,
+        matches!(&shelf.fetch(alloc, "/", 5000), Err(ShelfError::Failed)),
+    );
+    holds(
+        &rt,
         matches!(
             &shelf.fetch(alloc, "/dev/null/x", 5000),
             Err(ShelfError::Failed)
-        )
+        ),
     );
-    assert!(rt;
+    holds(
+        &rt,
         matches!(
             &shelf.fetch(alloc, "/no\nsuch file", 5000),
             Err(ShelfError::Failed)
-        )
+        ),
     );
     Ok(())
 }

@@ -1,6 +1,7 @@
 ghost use Rattle.std.specs.Prelude.{◌≡◌, IfOk};
 
 use super::{StdinSource, StdoutSink};
+use crate::asserts::equal;
 use kc_model::{Failed, Sink, Source};
 use std::io;
 use std::io::{Read, Write};
@@ -15,13 +16,13 @@ fn pieces_of_any_length_are_passed_on(rt: HostRuntime) -> Result<(), Fail> {
         let bytes = vec![in rt.alloc(); b'k'; len]?;
         let mut piece = vec![in rt.alloc(); 0u8; len]?;
         let mut source = StdinSource::new(bytes.as_slice());
-        assert_eq!(rt; source.read(&mut piece), Ok(len), "{len}");
-        assert_eq!(rt; piece.as_slice(), bytes.as_slice(), "{len}");
+        equal(&rt, source.read(&mut piece), Ok(len));
+        equal(&rt, piece.as_slice(), bytes.as_slice());
         let mut sink = StdoutSink::new(Vec::new(rt.alloc()));
-        assert_eq!(rt; sink.write(&bytes), Ok(len), "{len}");
+        equal(&rt, sink.write(&bytes), Ok(len));
     }
     let mut source = StdinSource::new(b"".as_slice());
-    assert_eq!(rt; source.read(&mut [0u8; 8]), Ok(0));
+    equal(&rt, source.read(&mut [0u8; 8]), Ok(0));
     Ok(())
 }
 
@@ -63,13 +64,13 @@ impl Write for Interrupted {
 #[test]
 fn a_call_that_fails_is_counted_and_not_tried_again(rt: HostRuntime) {
     let mut source = StdinSource::new(Interrupted { calls: 0 });
-    assert_eq!(rt; source.read(&mut [0u8; 8]), Err(Failed));
-    assert_eq!(rt; (source.input.calls, source.faults), (1, 1));
-    assert_eq!(rt; source.read(&mut [0u8; 8]), Ok(8));
-    assert_eq!(rt; (source.input.calls, source.faults), (2, 1));
+    equal(&rt, source.read(&mut [0u8; 8]), Err(Failed));
+    equal(&rt, (source.input.calls, source.faults), (1, 1));
+    equal(&rt, source.read(&mut [0u8; 8]), Ok(8));
+    equal(&rt, (source.input.calls, source.faults), (2, 1));
     let mut sink = StdoutSink::new(Interrupted { calls: 0 });
-    assert_eq!(rt; sink.write(b"kcas"), Err(Failed));
-    assert_eq!(rt; (sink.output.calls, sink.faults), (1, 1));
-    assert_eq!(rt; sink.write(b"kcas"), Ok(4));
-    assert_eq!(rt; (sink.output.calls, sink.faults), (2, 1));
+    equal(&rt, sink.write(b"kcas"), Err(Failed));
+    equal(&rt, (sink.output.calls, sink.faults), (1, 1));
+    equal(&rt, sink.write(b"kcas"), Ok(4));
+    equal(&rt, (sink.output.calls, sink.faults), (2, 1));
 }
