@@ -2,8 +2,8 @@
 use Rattle.std.proofs.Common.{sym, subst}
 use Rattle.kc_await.specs.Waiting.{CommitsAtLast, HasWaited, none, again}
 use Rattle.kc_model.specs.declared.footprint.Footprint.{Footprint}
+use Rattle.kc_store.proofs.kc_table_laws.Keeping.{keeps_same, keeps_then}
 use Rattle.kc_store.proofs.Waits.{hangs_keep}
-use Rattle.kc_store.proofs.Seeing.{keeps_same, keeps_then}
 use Rattle.kc_store.proofs.Settling.{commits_keep, looked_keeps}
 use Rattle.kc_store.specs.Commits.{AllTries, InVain, none as no_try, again as one_more}
 use Rattle.kc_store.specs.Tries.{CommitsAfter, Tries}

@@ -4,3 +4,4 @@ pub mod Looks
 pub mod Waits
 pub mod Rising
 pub mod Numbered
+mod Views

@@ -13,6 +13,7 @@ use Rattle.kc_model.specs.Rising.{IsRising}
 use Rattle.kc_model.specs.declared.footprint.Entry.{Entry}
 use Rattle.kc_model.specs.declared.footprint.Footprint.{Footprint}
 use Rattle.kc_store.proofs.Remembering.{remembers_on, within_same}
+use Rattle.kc_store.proofs.kc_table_laws.Keeping.{keeps_same}
 use Rattle.kc_store.specs.Answers.{Settles, own_entries}
 use Rattle.kc_store.specs.Commits.{AllTries}
 use Rattle.kc_store.specs.Knows.{AddsOne, IsTold, NotesWear, OnlyLearns, Remembers, entry_of}
@@ -37,7 +38,7 @@ pub record StillWaits (m : Meaning) (c d : CallerView) : Type 0 where
 pub not_yet : (m : Meaning) (c : CallerView) → StillWaits m c c
 not_yet m c = record {
   waiting = none;
-  remembers = record { of = refl; number = refl; known = within_same c.known; worn = λ q. q };
+  remembers = record { of = refl; number = refl; known = within_same c.known; worn = λ q. q; keeps = keeps_same c.seat };
   adds = record { looks = []; each = All-nil (IsLookOf c.number m); own = sym (append-nil c.own) };
   worn = refl;
 }
@@ -100,7 +101,7 @@ pub told_at_last : (m : Meaning) (c d e : CallerView) (f : Footprint) (a : Answe
 told_at_last m c d e f (answered.Done r) still t n rises = (t.0, and_one m c d e f still t.1 rises)
 told_at_last m c d e f answered.TooLarge still t n rises = (t.0, (t.1.0, and_one m c d e f still t.1.1 rises))
 told_at_last m c d e f (answered.WornLocation loc) still t n rises = (t.0, (t.1.0, and_one m c d e f still t.1.1 rises))
-told_at_last m c d e f answered.WornPool still t n rises = record { looks = still.adds.looks; each = still.adds.each; own = t ∙ still.adds.own }
+told_at_last m c d e f answered.WornPool still t n rises = (t.0, record { looks = still.adds.looks; each = still.adds.each; own = t.1 ∙ still.adds.own })
 told_at_last m c d e f answered.Later still t n rises = absurd (cc)
 
 -- what the last try noted, the whole commit did

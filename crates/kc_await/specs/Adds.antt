@@ -1,5 +1,5 @@
 -- What a commit that waits adds to its caller's own entries: looks, and then one entry.
-use Rattle.std.specs.Prelude.{◌≡◌, ℕ, ◌++◌, [], ◌∷◌, List, All, map}
+use Rattle.std.specs.Prelude.{◌≡◌, true, ℕ, ◌++◌, [], ◌∷◌, List, All, map}
 use Rattle.kc_model.specs.Footprint.{IsBelow}
 use Rattle.kc_model.specs.Rising.{IsRising}
 use Rattle.kc_model.specs.declared.footprint.Entry.{Entry}
@@ -45,7 +45,7 @@ IsToldAtLast m (answered.Done r) c f d = Answers m (answer.Reply r) f × AddsLoo
 IsToldAtLast m answered.Later c f d = ⊥
 IsToldAtLast m answered.TooLarge c f d = Answers m answer.TooLarge f × AddsLooksAndLook m c f d
 IsToldAtLast m (answered.WornLocation loc) c f d = Wears m loc.0 f × AddsLooksAndLook m c f d
-IsToldAtLast m answered.WornPool c f d = AddsLooksAlone m c d
+IsToldAtLast m answered.WornPool c f d = (d.worn ≡ true) × AddsLooksAlone m c d
 
 -- likewise of an answer that owns its footprint, which lies below the meaning's end
 abbrev pub WaitsSo : Meaning → ℕ → Outcome → CallerView → CallerView → Type 0
@@ -53,4 +53,4 @@ WaitsSo m end (outcome.Done r f) c d = IsToldAtLast m (answered.Done r) c f d ×
 WaitsSo m end (outcome.Later f) c d = ⊥
 WaitsSo m end (outcome.TooLarge f) c d = IsToldAtLast m answered.TooLarge c f d × IsBelow end f
 WaitsSo m end (outcome.Worn (wear.Location loc f)) c d = IsToldAtLast m (answered.WornLocation loc) c f d × IsBelow end f
-WaitsSo m end (outcome.Worn wear.Pool) c d = AddsLooksAlone m c d
+WaitsSo m end (outcome.Worn wear.Pool) c d = (d.worn ≡ true) × AddsLooksAlone m c d

@@ -5,10 +5,10 @@ ghost use Rattle.std.specs.Prelude.{◌≡◌, ◌<◌, ◌≤◌, IfSome};
 use crate::asserts::{equal, holds};
 use crate::callers::{ONE, UNTIL_ONE, open_two, opened, reply};
 use kc_await::{HangState, Hanging, hang_step, signalled};
-use kc_loc::LocOp;
+use kc_loc::{LocOp, Rel};
 use kc_model::{Footprint, Loc, Reply};
 use kc_queue::{Queue, QueueAct, QueueOp};
-use kc_store::{Caller, Fate, Store, Verdict};
+use kc_store::{Caller, Fate, Store, Verdict, Wakes};
 use kc_xt::{Transact, Trial, Went};
 use std::alloc::Global;
 use std::sync::Wait;
@@ -83,7 +83,6 @@ fn a_put_signals_who_hangs_on_it(rt: HostRuntime) {
     equal(&rt, hanging.state(), HangState::Hung);
     holds(&rt, !signalled(&store, &mut hanging));
     equal(&rt, reply(&rt, &store, &mut a, &ONE), Some(Reply::Unit));
-    equal(&rt, a.take_wakes(), 0);
     holds(&rt, signalled(&store, &mut hanging));
     equal(&rt, leave(&rt, &store, &mut hanging), 2);
     equal(&rt, hanging.state(), HangState::Free);
@@ -101,12 +100,12 @@ fn a_quiet_try_leaves_whom_it_signalled_to_its_caller(rt: HostRuntime) {
     let mut hanging = hanging_behind(&store, b, &UNTIL_ONE).expect(&rt, "nothing to hang on");
     step_on(&rt, &store, &mut hanging);
     let (mut trial, mut footprint) = (Trial::new(), Footprint::new());
-    let fate = store.try_in_place(&mut a, &ONE, &mut trial, &mut footprint);
+    let mut wakes = Wakes::none();
+    let fate = store.try_in_place(&mut a, &ONE, &mut trial, &mut footprint, &mut wakes);
     holds(&rt, matches!(fate, Fate::Entered { .. }));
     equal(&rt, (trial.went, trial.reply), (Went::Done, Reply::Unit));
     holds(&rt, signalled(&store, &mut hanging));
-    equal(&rt, a.take_wakes(), 0b10);
-    equal(&rt, a.take_wakes(), 0);
+    equal(&rt, wakes.bits(), 0b10);
 }
 
 #[test]
@@ -117,6 +116,33 @@ fn a_hang_on_what_has_changed_is_free_at_once(rt: HostRuntime) {
     equal(&rt, step_on(&rt, &store, &mut hanging), 3);
     equal(&rt, hanging.state(), HangState::Free);
     holds(&rt, !signalled(&store, &mut hanging));
+}
+
+#[test]
+fn a_commit_of_two_puts_signals_who_hangs_on_the_second(rt: HostRuntime) {
+    let (store, mut a, b) = opened(&rt, &[1, 0]);
+    let until = LocOp::Check(Loc(1), Rel::Eq, 1);
+    let mut hanging = hanging_behind(&store, b, &until).expect(&rt, "nothing to hang on");
+    step_on(&rt, &store, &mut hanging);
+    equal(&rt, hanging.state(), HangState::Hung);
+    let both = LocOp::Swap(Loc(0), Loc(1));
+    equal(&rt, reply(&rt, &store, &mut a, &both), Some(Reply::Unit));
+    holds(&rt, signalled(&store, &mut hanging));
+}
+
+#[test]
+fn the_last_of_64_callers_is_woken_by_its_own_bit(rt: HostRuntime) {
+    let opened = Store::open(rt.alloc(), &[0], 64);
+    let (store, mut callers) = opened.expect(&rt, "not opened");
+    let last = callers.pop().expect(&rt, "no caller");
+    let mut a = callers.pop().expect(&rt, "no caller");
+    let mut hanging = hanging_behind(&store, last, &UNTIL_ONE).expect(&rt, "nothing to hang on");
+    step_on(&rt, &store, &mut hanging);
+    let (mut trial, mut footprint) = (Trial::new(), Footprint::new());
+    let mut wakes = Wakes::none();
+    store.try_in_place(&mut a, &ONE, &mut trial, &mut footprint, &mut wakes);
+    holds(&rt, signalled(&store, &mut hanging));
+    equal(&rt, wakes.bits(), 1 << 63);
 }
 
 // Whether a put of a location signals who hangs on a look at the front of a queue, which reads the first three of four.

@@ -8,4 +8,6 @@ mod callers;
 #[cfg(test)]
 mod hanging;
 #[cfg(test)]
+mod viewing;
+#[cfg(test)]
 mod waiting;

@@ -25,7 +25,7 @@ use kc_calls::{
 };
 use kc_loc::LocOp;
 use kc_model::{Footprint, Loc};
-use kc_store::{Caller, Fate, Store};
+use kc_store::{Caller, Fate, Store, Wakes};
 use kc_xt::{Transact, Trial, Went};
 
 impl Client {
@@ -66,8 +66,7 @@ impl Client {
         if !are_operations(ops, *locations) {
             return BAD_OPS;
         }
-        let fate = try_calls(store, caller, ops, trial, footprint);
-        *wakes = caller.take_wakes();
+        let fate = try_calls(store, caller, ops, trial, footprint, wakes);
         if is_done(fate, trial) {
             tell(&trial.reply, &mut replies[..ops.len()]);
             return DONE;
@@ -129,8 +128,9 @@ fn try_silently<T: Transact>(
 {
     // Its own trial, which is kept in registers.
     let mut trial = Trial::new();
-    let fate = store.try_in_place(caller, transaction, &mut trial, footprint);
-    *wakes = caller.take_wakes();
+    let mut noted = Wakes::none();
+    let fate = store.try_in_place(caller, transaction, &mut trial, footprint, &mut noted);
+    *wakes = noted.bits();
     if is_done(fate, &trial) {
         return DONE;
     }
@@ -194,6 +194,7 @@ fn try_calls(
     ops: &[KcasOp],
     trial: &mut Trial,
     footprint: &mut Footprint,
+    wakes: &mut u64,
 ) -> Fate
     requires caller { caller.old.of ≡ store.now }
     requires fit { CallsAreFit ops.now }
@@ -202,7 +203,10 @@ fn try_calls(
     ensures remembers { Remembers caller.old caller.new }
     ensures within { has_entry (verdict_as result (tried_of trial.new.went trial.new.reply)) ≡ true → IsBelow (calls_end ops.now) footprint.new }
 {
-    store.try_in_place(caller, &Calls { ops }, trial, footprint)
+    let mut noted = Wakes::none();
+    let fate = store.try_in_place(caller, &Calls { ops }, trial, footprint, &mut noted);
+    *wakes = noted.bits();
+    fate
 }
 
 fn is_done(fate: Fate, trial: &Trial) -> bool

@@ -10,7 +10,7 @@ use crate::hang_state::HangState;
 use arrayvec::ArrayVec;
 use kc_machine_steps::Told;
 use kc_model::{MOST, Seen};
-use kc_table::{KcSeat, KcTable};
+use kc_table::{KcSeat, KcTable, Wakes};
 use std::marker::Model;
 
 /// A hang of a seat on reads that lie elsewhere, and the leave behind it. Contracts see the reads, its state, and whether it has
@@ -81,7 +81,9 @@ pub fn step(table: &KcTable, seat: &mut KcSeat, hang: &mut Hang) -> HangState
     ensures shows { ShowsHang hang.old.reads hang.old.state result seat.new }
 {
     start(seat, hang);
-    table.step(seat);
+    let mut wakes = Wakes::none();
+    table.step(seat, &mut wakes);
+    wakes.let_go();
     hang.state = state_at(hang.state, seat);
     hang.state
 }

@@ -110,8 +110,8 @@ fn can_stand(footprint: &Footprint) -> bool
     footprint.is_below(MOST_LOCATIONS as u32)
 }
 
-/// Finds the canonical order of the records. It takes no memory, and works in time linear in all reads and puts, and
-/// in threads times records.
+/// Finds the canonical order of the records. It takes no memory. No clause speaks of its time: by its loops it goes with all
+/// reads and puts, with the room's locations, and with threads times records.
 ///
 /// # Errors
 ///

@@ -8,6 +8,7 @@ ghost use Rattle.kc_history.specs.Records.{head_in, record_print, puts_of, reads
 
 use crate::prints::Prints;
 use crate::record::{BLANK, Head, Mark};
+use crossbeam_utils::CachePadded;
 use kc_model::{Answer, Footprint, MOST, Put, Seen};
 use std::alloc::{AllocError, Global};
 use std::marker::Model;
@@ -16,7 +17,10 @@ use std::marker::Model;
 /// alone is kept: they have the blank head. Contracts see them, how many more there is room for, how many more footprints
 /// alone behind those, and how many locations each may touch.
 #[derive(Drop)]
+#[repr(C)]
 pub struct Records {
+    // The records of several threads lie side by side in a vector, and each thread counts up its own at every command.
+    apart: CachePadded<()>,
     heads: Vec<Head>,
     blank: Head,
     prints: Prints,
@@ -42,6 +46,7 @@ impl Records {
         ensures { IfOk result (λ r. r ≡ record { items = []; spare = records; bare = 0; limit = limit }) }
     {
         Ok(Records {
+            apart: CachePadded::new(()),
             heads: blank_heads(alloc, records as usize)?,
             blank: BLANK,
             prints: Prints::open(alloc, records, limit)?,
@@ -54,6 +59,7 @@ impl Records {
         ensures { IfOk result (λ r. r ≡ record { items = []; spare = 0; bare = prints; limit = limit }) }
     {
         Ok(Records {
+            apart: CachePadded::new(()),
             heads: Vec::new(alloc),
             blank: BLANK,
             prints: Prints::open(alloc, prints, limit)?,

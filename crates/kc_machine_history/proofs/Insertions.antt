@@ -146,7 +146,7 @@ among_same : (h : History) → IsAmong h h
 among_same [] = none
 among_same (x ∷ h) = here (among_same h)
 
-among_on : {a b c : History} → IsAmong a b → IsAmong b c → IsAmong a c
+pub among_on : {a b c : History} → IsAmong a b → IsAmong b c → IsAmong a c
 among_on none g = none
 among_on f (later g) = later (among_on f g)
 among_on (here f) (here g) = here (among_on f g)

@@ -32,6 +32,8 @@ pub mod Failing
 pub mod Missing
 pub mod Causes
 pub mod Put
+pub mod Fronts
+pub mod Confirming
 pub use Rattle.kc_machine_traces.proofs.kc_machine as kc_machine
 pub use Rattle.kc_machine_traces.proofs.kc_machine_invariants as kc_machine_invariants
 pub use Rattle.kc_machine_traces.proofs.kc_machine_steps as kc_machine_steps

@@ -6,6 +6,7 @@ pub mod Settled
 pub mod Past
 pub mod Honest
 pub mod Causes
+pub mod Confirmed
 pub use Rattle.kc_machine_traces.specs.kc_machine as kc_machine
 pub use Rattle.kc_machine_traces.specs.kc_machine_commits as kc_machine_commits
 pub use Rattle.kc_machine_traces.specs.kc_machine_invariants as kc_machine_invariants

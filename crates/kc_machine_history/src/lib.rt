@@ -1,13 +1,16 @@
 //! What holds of histories: of lists of entries with places, and of the one that a schedule makes.
 //! That words stand for what the history makes, which grows and is legal.
+//! That reads which plain words confirm stood at one moment, for good.
 //! That the history is legal and failures have a cause, where each commit read what was known when it began.
 #![tactic(auto)]
 
+mod confirmed;
 mod honest;
 mod lists;
 mod stands;
 mod traces;
 
+pub use confirmed::{confirmations_stay, confirmed_reads_have_a_front, confirmed_reads_stand};
 pub use honest::{
     checks_stood, failures_are_past, failures_have_a_cause, histories_are_legal,
     installed_lines_stand, swap_failures_have_a_cause,

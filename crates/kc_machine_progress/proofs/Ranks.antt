@@ -126,7 +126,7 @@ module _ (n : ℕ) (at : ℕ → Hold) where
 
   -- ---- steps with nothing to pay
 
-  abbrev is_plain : OwnStep → Bool
+  abbrev pub is_plain : OwnStep → Bool
   is_plain own.FillOwner = false
   is_plain (own.FillFirst k) = false
   is_plain (own.FillSecond k) = false
@@ -179,7 +179,7 @@ module _ (n : ℕ) (at : ℕ → Hold) where
       go None = finished_plain i p
       go (Some j) = refl
 
-  owed_plain : (x : ℕ) → is_plain (owed_next x) ≡ true
+  pub owed_plain : (x : ℕ) → is_plain (owed_next x) ≡ true
   owed_plain x = go (x == 0)
     where
       go : (b : Bool) → is_plain (if b then own.Drop Succeeded else own.Signal x) ≡ true
@@ -187,7 +187,7 @@ module _ (n : ℕ) (at : ℕ → Hold) where
       go false = refl
 
   -- a pass that is past its installs
-  past_plain : (w : World) (h : Handle) (i : Intent) (p : PassStep) → is_plain (own.Pass p) ≡ true → is_plain (after_own_pass i (pass_next h i.mode i.lines.items p (found_at w (pass_access h i.lines.items p)))) ≡ true
+  pub past_plain : (w : World) (h : Handle) (i : Intent) (p : PassStep) → is_plain (own.Pass p) ≡ true → is_plain (after_own_pass i (pass_next h i.mode i.lines.items p (found_at w (pass_access h i.lines.items p)))) ≡ true
   past_plain w h i (Install k) e = absurd (cc)
   past_plain w h i (Check k) e = by (slice_get i.lines.items k)
     where

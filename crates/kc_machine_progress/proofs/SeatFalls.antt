@@ -89,7 +89,7 @@ pub data Goes (n e : ℕ) (w : World) (s : Seat) (old : ℕ) : Type 0 where
 
 -- ---- a search
 
-next_round : (n e d : ℕ) → d < n → e < n → d ≢ e → round n e (after_scan n d) < round n e d
+pub next_round : (n e d : ℕ) → d < n → e < n → d ≢ e → round n e (after_scan n d) < round n e d
 next_round n e d l m ne = go (nat_lt e d) (nat_lt d (n - 1)) refl refl
   where
     last : (b : Bool) → nat_lt e 0 ≡ b → nat_lt d (n - 1) ≡ false → e < d → (if b then n + e - 0 else e - 0) < n + e - d

@@ -246,10 +246,10 @@ module _ (n : ℕ) (at : ℕ → Hold) (f least : ℕ) (w : World) (ground : Gro
   -- ---- one release of what was left
 
   -- its reference is to the last life
-  last_life : (l : ℕ) → Stands n at f w l r → is_last w r.handle ≡ true
+  pub last_life : (l : ℕ) → Stands n at f w l r → is_last w r.handle ≡ true
   last_life l s = eq-eqb _ _ (ground.fit l r.handle.generation c r.line s).0.0
 
-  released : (l : ℕ) (p : Phase) (x : Line) → Stands n at f w l r → x ≡ line_of_words w c r.line
+  pub released : (l : ℕ) (p : Phase) (x : Line) → Stands n at f w l r → x ≡ line_of_words w c r.line
       → V (aid.Release p x) ≡ freed w l (Plain (resolved_version (first_of x) p) (resolved_value (first_of x) (second_of x).after p))
   released l p x s e = ap (λ z. swapped x.seen.loc.0 z) (word_true (w.word x.seen.loc.0) (ap w.word place ∙ s)) ∙ ap (λ z. swapped z true) place
     where
@@ -338,18 +338,18 @@ module _ (n : ℕ) (at : ℕ → Hold) (f least : ℕ) (w : World) (ground : Gro
 
   -- ---- a chain
 
-  course_line : (j : ℕ) (x : Line) → Course → slice_get a.lines.items j ≡ Some x → j < MOST → is_installed a.owner.mode x ≡ true → in_line w c j ≡ true
+  pub course_line : (j : ℕ) (x : Line) → Course → slice_get a.lines.items j ≡ Some x → j < MOST → is_installed a.owner.mode x ≡ true → in_line w c j ≡ true
   course_line j x t e low y =
       let l = slice_get_within a.lines.items j x e in
       let m = t.lines in
       in_line_is w c j (omega (arith, l, m), low, subst (λ b. is_installed b (line_of_words w c j) ≡ true) (sym t.says) (subst (λ b. is_installed a.owner.mode b ≡ true) (sym (t.line j x e)) y))
 
-  record Keeps (v : World) (l : ℕ) : Type 0 where
-    stands : Stands n at f v l r
-    live : IsLive n at f v r
-    chain_on : chain n at v l ≤ chain n at w l
+  pub record Keeps (v : World) (l : ℕ) : Type 0 where
+    pub stands : Stands n at f v l r
+    pub live : IsLive n at f v r
+    pub chain_on : chain n at v l ≤ chain n at w l
 
-  install_keeps : (j l : ℕ) → IsInstalledAt a.owner.mode a.lines.items j → Stands n at f w l r → IsLive n at f w r → Keeps (V (aid.Pass (Install j))) l
+  pub install_keeps : (j l : ℕ) → IsInstalledAt a.owner.mode a.lines.items j → Stands n at f w l r → IsLive n at f w r → Keeps (V (aid.Pass (Install j))) l
   install_keeps j l y s live = subst (λ o. Keeps (touched w (install_access r.handle j o)) l) (sym y.1) (record {
     stands = cas_cases (λ z. z ≡ reference_word r.handle r.line) w y.0.seen.loc (Plain y.0.seen.version y.0.seen.value) (reference_word r.handle j) l (λ b. s) (λ b d. s) (λ b d. let z : Plain y.0.seen.version y.0.seen.value ≡ reference_word r.handle r.line = sym d ∙ s in absurd (cc));
     live = live;
@@ -409,7 +409,7 @@ module _ (n : ℕ) (at : ℕ → Hold) (f least : ℕ) (w : World) (ground : Gro
             pays = inr (live, record { place = l; stands = s; shorter = short; pays = omega (arith, m, z') });
           })))
 
-  check_keeps : (j l : ℕ) → IsCheckedAt a.owner.mode a.lines.items j → Stands n at f w l r → IsLive n at f w r → Keeps (V (aid.Pass (Check j))) l
+  pub check_keeps : (j l : ℕ) → IsCheckedAt a.owner.mode a.lines.items j → Stands n at f w l r → IsLive n at f w r → Keeps (V (aid.Pass (Check j))) l
   check_keeps j l y s live = subst (λ o. Keeps (touched w (check_access o)) l) (sym y.1) (record { stands = s; live = live; chain_on = omega arith })
 
   chained_on : (p : PassStep) (old l : ℕ) → least ≤ suc l → Keeps (V (aid.Pass p)) l → All w (aid.Pass p) + (3 * MOST + 5) * chain n at w l ≤ old + (each n at f + (9 * MOST - 1))

@@ -1,14 +1,18 @@
 -- The lock-free store as one that threads share: its values and its history, its callers, and how it opens.
-use Rattle.std.specs.Prelude.{◌≡◌, ℕ, ◌+◌, ◌<◌, List, map}
+use Rattle.std.specs.Prelude.{◌≡◌, ℕ, ◌+◌, ◌<◌, ◌≤◌, ◌++◌, [], ◌∷◌, List, map}
 use Rattle.std.specs.Global.{Vec}
 use Rattle.kc_await.specs.Waiting.{CommitsAtLast}
 use Rattle.kc_machine_traces.specs.Histories.{entries}
+use Rattle.kc_model.specs.Legal.{IsLegal}
+use Rattle.kc_model.specs.Store.{Store}
 use Rattle.kc_model.specs.declared.footprint.Entry.{Entry}
 use Rattle.kc_model.specs.declared.footprint.Footprint.{Footprint}
+use Rattle.kc_model.specs.declared.footprint.TheConstants.{LAST_VERSION}
 use Rattle.kc_run.specs.Jobs.{AllMayRun}
 use Rattle.kc_script_bundle.specs.declared.bundle.TheConstants.{MOST_COMMANDS}
 use Rattle.kc_script_bundle.specs.declared.operation.Command.{Command}
-use Rattle.kc_store.specs.Views.{CallerView, PastView, StoreView, caller_view, opened_caller, opened_callers, store_view}
+use Rattle.kc_store.specs.PutCount.{puts_made}
+use Rattle.kc_store.specs.Views.{CallerView, PastView, StoreView, caller_view, opened_caller, opened_callers, store_opening, store_view}
 use Rattle.kc_store.specs.declared.verdict.Answered.{Answered}
 use Rattle.kc_table_moves.specs.Origins.{Origin, opening_of}
 use Rattle.kc_table_moves.specs.Views.{count_from}
@@ -53,6 +57,13 @@ pub record BelongsTo (z : StoreView) (c : CallerView) : Type 0 where
   pub of : c.of ≡ z
   pub shown : c ≡ caller_view c.worn c.seat
   pub only : OnlyCommits c
+
+-- its last entry is that of a commit that would put a location without a version left: in each legal list from the opening that has it, the location was put once for each version since then
+pub record LastIsWorn (l : ℕ) (d : CallerView) : Type 0 where
+  pub others : List Entry
+  pub last : Entry
+  pub own : d.own ≡ others ++ last ∷ []
+  pub puts : (t e : Store) (before behind : List Entry) → IsLegal (store_opening d.of) before t → IsLegal (store_opening d.of) (before ++ last ∷ behind) e → LAST_VERSION ≤ (store_opening d.of l).version + puts_made l before
 
 -- how many commits a caller may make, at least: those of a thread's commands and of its end
 abbrev pub left_in : CallerView → ℕ

@@ -8,9 +8,8 @@ use kc_history::Records;
 use kc_script_bundle::{Command, MOST_COMMANDS};
 use std::alloc::{AllocError, Global};
 
-/// A pass, and the records of its thread. Passes begin with unused bytes, which hold two threads' records apart.
+/// A pass, and the records of its thread.
 #[derive(Drop)]
-#[repr(C)]
 pub struct Job<P> {
     pub pass: P,
     pub records: Records,

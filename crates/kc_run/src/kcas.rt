@@ -1,14 +1,14 @@
 //! Threads share the lock-free store.
 
-ghost use Rattle.std.specs.Prelude.{◌≡◌, ◌↔◌, ◌<◌, ◌≤◌, ◌⊎◌, All, Err, IfOk, length, map};
+ghost use Rattle.std.specs.Prelude.{◌≡◌, ◌↔◌, ◌<◌, ◌≤◌, ◌⊎◌, All, Err, IfOk, length, map, true};
 ghost use Rattle.kc_history.specs.Callers.{of_caller, IsBelowCallers, IsLegalFrom};
-ghost use Rattle.kc_run.specs.Kcas.{AllKcDealt, BelongsTo, OpenedForCallers, history_in, values_in, values_of};
+ghost use Rattle.kc_run.specs.Kcas.{AllKcDealt, BelongsTo, LastIsWorn, OpenedForCallers, history_in, values_in, values_of};
 ghost use Rattle.kc_table_moves.specs.Views.{count_from};
 
 use crate::shared::Shared;
 use kc_await::commit_waiting_into;
 use kc_locked::MOST_CALLERS;
-use kc_model::{Answer, Footprint, MOST_LOCATIONS, NoMemory, OpenError};
+use kc_model::{Answer, Footprint, Loc, MOST_LOCATIONS, NoMemory, OpenError};
 use kc_script_bundle::{Command, MOST_COMMANDS};
 use kc_store::{Answered, Caller, Past, Store};
 use kc_xt::Transact;
@@ -61,7 +61,7 @@ impl Shared for KcShared {
 
     ghost history = { history_in };
 
-    /// Where the store is worn it doesn't return.
+    /// Where the store is worn it doesn't return: where a location was put as often as it has versions, or no descriptor has a life left.
     fn commit_command<R: Wait, T: Transact>(
         &self,
         rt: &R,
@@ -74,7 +74,9 @@ impl Shared for KcShared {
         match answered {
             Answered::Done(reply) => Answer::Reply(reply),
             Answered::TooLarge => Answer::TooLarge,
-            Answered::Later | Answered::WornLocation(_) | Answered::WornPool => stay(rt),
+            Answered::Later => unreachable!("a commit that waits is never answered so"),
+            Answered::WornLocation(at) => stay_at(rt, caller, at),
+            Answered::WornPool => stay_without_pool(rt, caller),
         }
     }
 
@@ -91,8 +93,24 @@ impl Shared for KcShared {
     }
 }
 
-// A worn store has no answer of a command, so this doesn't return.
+// A location without a version left has no answer of a command, so this doesn't return. Each of its versions was put.
 #[cold]
+fn stay_at<R: Wait>(rt: &R, _caller: &Caller, _at: Loc) -> Answer
+    requires { LastIsWorn _at.0 _caller.now }
+    ensures { ⊥ }
+{
+    stay(rt)
+}
+
+// Nor has a pool in which no descriptor has a life left, as the caller was told.
+#[cold]
+fn stay_without_pool<R: Wait>(rt: &R, _caller: &Caller) -> Answer
+    requires { _caller.now.worn ≡ true }
+    ensures { ⊥ }
+{
+    stay(rt)
+}
+
 fn stay<R: Wait>(rt: &R) -> Answer
     ensures { ⊥ }
 {

@@ -9,17 +9,13 @@ use Rattle.kc_hang.specs.kc_machine_traces.Traces.{first_store}
 use Rattle.kc_model.specs.Legal.{IsLegal}
 use Rattle.kc_model.specs.declared.footprint.Entry.{Entry}
 use Rattle.kc_store.proofs.Remembering.{entries_by, entries_within}
-use Rattle.kc_store.specs.Backs.{AreAllBelow, AreAllCallers, ShowsRest}
+use Rattle.kc_store.specs.Backs.{AreAllBelow, AreAllCallers, ShowsItsSeat, ShowsRest}
 use Rattle.kc_store.specs.Knows.{IsHistory, IsWithin, entries_of}
 use Rattle.kc_store.specs.Rests.{Rests}
 use Rattle.kc_store.specs.Views.{CallerView, StoreView, caller_view, last, past_view, store_view}
 use Rattle.kc_hang.specs.kc_table_moves.Origins.{Origin, opening_of}
 use Rattle.kc_hang.specs.kc_table_moves.Views.{AreAll, IsPart, IsPast, TablePastView, SeatView, TableView, numbers}
 use Rattle.kc_hang.specs.kc_table_views.Known.{known}
-
--- a caller is what its seat shows, and what it was told
-abbrev pub IsShown : CallerView → Type 0
-IsShown c = c ≡ caller_view c.worn c.seat
 
 -- what holds callers has their seats
 pub same_seats : {X : Type 0} (caller : X → CallerView) (seat : X → SeatView) (hs : List X) → All (λ h. ShowsRest (caller h) (seat h)) hs → map seat hs ≡ map (λ (c : CallerView). c.seat) (map caller hs)
@@ -30,21 +26,21 @@ same_seats {X = X} caller seat (h ∷ hs) a =
     let rest = same_seats caller seat hs (All-tail P h hs a) in
     λ i. first i ∷ rest i
 
-pub all_shown : {X : Type 0} (caller : X → CallerView) (seat : X → SeatView) (hs : List X) → All (λ h. ShowsRest (caller h) (seat h)) hs → All IsShown (map caller hs)
-all_shown caller seat hs a = All-map IsShown caller hs (All-weaker (λ h. ShowsRest (caller h) (seat h)) (λ h. IsShown (caller h)) (λ h s. shown_at (caller h) (seat h) s) hs a)
+pub all_shown : {X : Type 0} (caller : X → CallerView) (seat : X → SeatView) (hs : List X) → All (λ h. ShowsRest (caller h) (seat h)) hs → All ShowsItsSeat (map caller hs)
+all_shown caller seat hs a = All-map ShowsItsSeat caller hs (All-weaker (λ h. ShowsRest (caller h) (seat h)) (λ h. ShowsItsSeat (caller h)) (λ h s. shown_at (caller h) (seat h) s) hs a)
   where
-    shown_at : (c : CallerView) (v : SeatView) → ShowsRest c v → IsShown c
+    shown_at : (c : CallerView) (v : SeatView) → ShowsRest c v → ShowsItsSeat c
     shown_at c v s = s.view ∙ ap (caller_view c.worn) (sym (ap (λ (d : CallerView). d.seat) s.view))
 
 pub shows_rest : (y c : CallerView) (v : SeatView) → y ≡ c → c.seat ≡ v → Rests y.seat → y ≡ caller_view y.worn y.seat → ShowsRest c v
 shows_rest y c v e s r view =
     subst (λ v. ShowsRest c v) s (subst (λ x. ShowsRest x x.seat) e (record { rests = r; view = view }))
 
-numbers_of : (callers : List CallerView) → All IsShown callers → map (λ (c : CallerView). c.number) callers ≡ numbers (map (λ (c : CallerView). c.seat) callers)
+numbers_of : (callers : List CallerView) → All ShowsItsSeat callers → map (λ (c : CallerView). c.number) callers ≡ numbers (map (λ (c : CallerView). c.seat) callers)
 numbers_of [] a = refl
 numbers_of (c ∷ cs) a =
-    let first : c.number ≡ c.seat.number = ap (λ (d : CallerView). d.number) (All-head IsShown c cs a) in
-    let rest = numbers_of cs (All-tail IsShown c cs a) in
+    let first : c.number ≡ c.seat.number = ap (λ (d : CallerView). d.number) (All-head ShowsItsSeat c cs a) in
+    let rest = numbers_of cs (All-tail ShowsItsSeat c cs a) in
     λ i. first i ∷ rest i
 
 -- what holds of each caller's seat holds of each seat
@@ -53,7 +49,7 @@ of_seats P callers a = All-map P (λ (c : CallerView). c.seat) callers a
 
 -- ---- all callers
 
-pub all_back : (z : StoreView) (y : TableView) (callers : List CallerView) → store_view y ≡ z → AreAllCallers z callers → All IsShown callers → All Rests (map (λ (c : CallerView). c.seat) callers) → AreAll y (map (λ (c : CallerView). c.seat) callers)
+pub all_back : (z : StoreView) (y : TableView) (callers : List CallerView) → store_view y ≡ z → AreAllCallers z callers → All ShowsItsSeat callers → All Rests (map (λ (c : CallerView). c.seat) callers) → AreAll y (map (λ (c : CallerView). c.seat) callers)
 all_back z y callers e a shown rest = record {
   of = of_seats (λ (s : SeatView). s.of ≡ y) callers (λ k d lt. sym (ap (λ (d : CallerView). d.of.table) (shown k d lt)) ∙ ap (λ (x : StoreView). x.table) (a.of k d lt ∙ sym e));
   idle = All-weaker Rests (λ (s : SeatView). is_idle s.seat.work ≡ true) (λ s r. r.idle) (map (λ (c : CallerView). c.seat) callers) rest;
@@ -62,7 +58,7 @@ all_back z y callers e a shown rest = record {
 
 -- ---- the history
 
-module _ (z : TableView) (callers : List CallerView) (p : TablePastView) (shown : All IsShown callers) (past : IsPast z (map (λ (c : CallerView). c.seat) callers) p) where
+module _ (z : TableView) (callers : List CallerView) (p : TablePastView) (shown : All ShowsItsSeat callers) (past : IsPast z (map (λ (c : CallerView). c.seat) callers) p) where
   abbrev seat : CallerView → SeatView
   seat c = c.seat
 
@@ -84,7 +80,7 @@ module _ (z : TableView) (callers : List CallerView) (p : TablePastView) (shown 
         (All-map (λ (e : Entry). e.caller < p.origin.callers) (λ (x : Placed). x.entry) (known (opening_of p.origin) p.schedule) past.whole.of_callers);
   }
 
-pub history_back : (z : StoreView) (y : TableView) (callers : List CallerView) (p : TablePastView) → store_view y ≡ z → All IsShown callers → IsPast y (map (λ (c : CallerView). c.seat) callers) p → IsHistory z callers (past_view p)
+pub history_back : (z : StoreView) (y : TableView) (callers : List CallerView) (p : TablePastView) → store_view y ≡ z → All ShowsItsSeat callers → IsPast y (map (λ (c : CallerView). c.seat) callers) p → IsHistory z callers (past_view p)
 history_back z y callers p e shown past = subst (λ (x : StoreView). IsHistory x callers (past_view p)) e (history y callers p shown past)
 
 pub past_back : (z : StoreView) (y : TableView) (seats : List SeatView) (p : TablePastView) → store_view y ≡ z → IsPast y seats p → IsPast z.table seats p

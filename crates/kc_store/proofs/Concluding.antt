@@ -20,15 +20,16 @@ use Rattle.kc_model.specs.declared.footprint.Put.{Put}
 use Rattle.kc_model.specs.declared.footprint.TheConstants.{MOST}
 use Rattle.kc_model.specs.declared.reply.Answer.TheVariants as answer
 use Rattle.kc_model.specs.declared.reply.Reply.{Reply}
+use Rattle.kc_store.proofs.Among.{nothing_in}
 use Rattle.kc_store.proofs.Doing.{did_keeps}
 use Rattle.kc_store.proofs.Ending.{runs, tried_starts}
 use Rattle.kc_store.proofs.Gaining.{gains}
-use Rattle.kc_hang.proofs.kc_table_laws.Keeping.{success_known}
-use Rattle.kc_store.proofs.Seeing.{keeps_then}
+use Rattle.kc_hang.proofs.kc_table_laws.Keeping.{keeps_then, success_known}
 use Rattle.kc_store.specs.Alone.{EndsAlone}
 use Rattle.kc_store.specs.Answers.{Gains, own_entries, placed_entry}
 use Rattle.kc_store.specs.Lone.{AllAlone, CommitsAlone}
 use Rattle.kc_store.specs.Steps.{sole_bound, steps_made}
+use Rattle.kc_store.specs.Tries.{bare_footprint}
 use Rattle.kc_store.specs.declared.verdict.Answered.{Answered}
 use Rattle.kc_store.specs.declared.verdict.Answered.TheVariants as answered
 use Rattle.kc_hang.specs.kc_table_moves.Origins.{opening_of}
@@ -38,7 +39,8 @@ use Rattle.kc_hang.specs.kc_table_laws.Tasks.{DoesTask, KeepsKnown}
 use Rattle.kc_table_laws.proofs.Knowing.{own_before, own_behind}
 use Rattle.kc_table_laws.specs.Sole.{HasNoLife, IsSole, TableRests, standing}
 use Rattle.kc_xt.specs.Commit.{Came, answer_of, run_on}
-use Rattle.kc_xt.specs.Meaning.{CanMake, Makes, Meaning, Outcome, Touch, replied, retried, too_large}
+use Rattle.kc_xt.proofs.Spared.{touched-given_up, written-given_up}
+use Rattle.kc_xt.specs.Meaning.{CanMake, Makes, Meaning, Outcome, Touch, given_up, replied, retried, too_large}
 use Rattle.kc_xt.specs.declared.attempts.Tried.{Tried}
 use Rattle.kc_xt.specs.declared.attempts.Tried.TheVariants as tried
 
@@ -70,6 +72,14 @@ can_make s ts f made m l v wrote =
     let at : put_at f.puts.items l ≡ Some p = m.puts l ∙ ap (option_map (λ v. record { loc = record { 0 = l }; version = (s l).version; after = v })) wrote in
     made.versions_put p (is_put f.puts.items l p at)
 
+-- of what would have been made the reads alone
+makes_bare : (s : Store) (ts : List Touch) (f : Footprint) → Makes s ts f → Makes s (given_up ts) (bare_footprint f)
+makes_bare s ts f m = record {
+  well_made = record { reads_rise = m.well_made.reads_rise; puts_rise = tt; versions = m.well_made.versions; puts_read = λ p c. absurd (nothing_in p c); versions_put = λ p c. absurd (nothing_in p c) };
+  reads = λ l. rw (touched-given_up ts l) (m.reads l);
+  puts = λ l. rw (written-given_up ts l) refl;
+}
+
 -- ---- an entry at the end
 
 ending_push : (s : Store) (h : History) (x : Placed) (l : ℕ) → ending_store s (h ++ x ∷ []) l ≡ after x.entry.footprint (ending_store s h) l
@@ -99,7 +109,7 @@ ends_worn m (answered.Done r) v f w of e none = absurd (e.2 none)
 ends_worn m answered.Later v f w of e none = no_life v w of e.2 none
 ends_worn m answered.TooLarge v f w of e none = no_life v w of e.2 none
 ends_worn m (answered.WornLocation loc) v f w of e none = no_life v w of e.3 none
-ends_worn m answered.WornPool v f w of e none = no_life v w of e.3 none
+ends_worn m answered.WornPool v f w of e none = no_life v w of e.4 none
 
 -- ---- what is committed
 
@@ -155,13 +165,14 @@ module _ (m : Meaning) (a : Reply) (before : Footprint) (v : SeatView) (f : Foot
     pub steps_both : length f.reads.items ≤ MOST → steps_made w ≤ steps_made v + sole_bound
     steps_both few = let p = x.passes.steps in let q = y.steps in omega (arith, p, q, few)
 
-    pub worn_pool : b ≡ false → EndsAlone m answered.WornPool v f w
-    worn_pool e =
+    pub worn_pool : (g : Footprint) → g ≡ bare_footprint f → b ≡ false → EndsAlone m answered.WornPool v g w
+    worn_pool g is e =
         let z = y.wears e in
         let r = x.passes.rests in (
           (a, outcome),
           can,
           life_back v u of_u r z.0,
+          subst (Makes (standing v) (given_up (run_on m (standing v)).touches)) (sym is) (makes_bare (standing v) (run_on m (standing v)).touches f makes),
           record { stands = z.1.stands ∙ r.stands; knows = z.1.knows ∙ r.knows; generations = λ d. z.1.generations d ∙ r.generations d },
         )
 

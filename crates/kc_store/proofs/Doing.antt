@@ -61,6 +61,7 @@ goes_on v w more of number past meant =
     record {
       of = of;
       number = number;
+      past = (more, past);
       grows = subst (Grows (knows v)) h (grows_on o v.past more m);
       reads = λ r k. subst (λ x. IsKnown (first_store x) (knows w) r) (sym s) (subst (λ x. IsKnown (first_store o) x r) h (known_on o v.past more m r k));
       versions = λ l. subst (λ x. (ending_store (first_store o) (knows v) l).version ≤ (ending_store (first_store x) (knows w) l).version) (sym s)
@@ -79,7 +80,7 @@ did_keeps v w t (inl d) = does_keep v w t d
 did_keeps v w t (inr (u, d, e)) = subst (KeepsKnown v) (sym e) (halted_keeps (does_keep v u t d))
   where
     halted_keeps : KeepsKnown v u → KeepsKnown v (record u { seat = halted u.seat })
-    halted_keeps k = record { of = k.of; number = k.number; grows = k.grows; reads = k.reads; versions = k.versions }
+    halted_keeps k = record { of = k.of; number = k.number; past = k.past; grows = k.grows; reads = k.reads; versions = k.versions }
 
 -- ---- its own entries
 

@@ -27,6 +27,12 @@ pub mod LoneCommits
 pub mod LoneTold
 pub mod Concluding
 pub mod Within
+pub mod Entering
+pub mod PutCount
+pub mod Mute
 mod Swapping
+pub mod Glancing
+mod Fronts
 pub use Rattle.kc_hang.proofs.kc_machine_history as kc_machine_history
+pub use Rattle.kc_hang.proofs.kc_table_laws as kc_table_laws
 pub use Rattle.kc_hang.proofs.kc_machine_traces as kc_machine_traces

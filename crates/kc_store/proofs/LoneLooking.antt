@@ -8,12 +8,12 @@ use Rattle.kc_model.specs.declared.footprint.Footprint.{Footprint}
 use Rattle.kc_model.specs.declared.footprint.Loc.{Loc}
 use Rattle.kc_model.specs.declared.footprint.Seen.{Seen}
 use Rattle.kc_model.specs.declared.plain_store.Cell.{Cell}
+use Rattle.kc_hang.proofs.kc_table_laws.Keeping.{keeps_same, keeps_then}
 use Rattle.kc_store.proofs.Among.{first_or_later, nothing_in}
 use Rattle.kc_store.proofs.Counting.{step_counts}
 use Rattle.kc_store.proofs.Doing.{did_keeps}
 use Rattle.kc_store.proofs.Ending.{runs}
 use Rattle.kc_store.proofs.ReadLooks.{was_looked_at}
-use Rattle.kc_store.proofs.Seeing.{keeps_same, keeps_then}
 use Rattle.kc_store.specs.Lone.{AllAlone, LooksAlone, Passes}
 use Rattle.kc_store.specs.LoneLooks.{SoleGives}
 use Rattle.kc_store.specs.Steps.{steps_made}

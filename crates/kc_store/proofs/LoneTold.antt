@@ -31,7 +31,7 @@ module _ (before now : Bool) (m : Meaning) where
   told_alone answered.Later v f w k e = (e.0, e.1, leaves before now v w k e.2)
   told_alone answered.TooLarge v f w k e = (e.0, e.1, leaves before now v w k e.2)
   told_alone (answered.WornLocation loc) v f w k e = (e.0, e.1, e.2, leaves before now v w k e.3)
-  told_alone answered.WornPool v f w k e = (e.0, leaves before now v w k e.3)
+  told_alone answered.WornPool v f w k e = (e.0, e.3, leaves before now v w k e.4)
 
 pub told_is : (o : Sole) (a : Answered) (f : Footprint) → SoleSays o a f → a ≡ told_in o
 told_is (sole.Done r g) a f is = is.0
@@ -54,7 +54,7 @@ sole_so m end o a c f d is told below = go o is
     go (sole.Later g) is = whole answered.Later g is
     go (sole.TooLarge g) is = whole answered.TooLarge g is
     go (sole.Worn (wear.Location loc g)) is = whole (answered.WornLocation loc) g is
-    go (sole.Worn wear.Pool) is = at answered.WornPool is
+    go (sole.Worn wear.Pool) is = let z = at answered.WornPool is in (z.0, z.2)
 
 -- where no life was left, none is
 rests_worn : (v w : SeatView) → w.of ≡ v.of → TableRests v w → StaysWorn v w
@@ -65,11 +65,11 @@ ends_worn m (answered.Done r) v f w of e = λ worn. absurd (e.2 worn)
 ends_worn m answered.Later v f w of e = rests_worn v w of e.2
 ends_worn m answered.TooLarge v f w of e = rests_worn v w of e.2
 ends_worn m (answered.WornLocation loc) v f w of e = rests_worn v w of e.3
-ends_worn m answered.WornPool v f w of e = rests_worn v w of e.3
+ends_worn m answered.WornPool v f w of e = rests_worn v w of e.4
 
 -- a caller that notes it was told so knows that no life is left
 pub noted_alone : (m : Meaning) (a : Answered) (v : SeatView) (f : Footprint) (w : SeatView) (old new : Bool) → w.of ≡ v.of → EndsAlone m a v f w → new ≡ (is_worn_pool (verdict_of a) || old) → KnowsItsWear old v → KnowsItsWear new w
-noted_alone m answered.WornPool v f w old new of e n out q = rests_worn v w of e.3 e.2
+noted_alone m answered.WornPool v f w old new of e n out q = rests_worn v w of e.4 e.2
 noted_alone m (answered.Done r) v f w old new of e n out q = ends_worn m (answered.Done r) v f w of e (out (sym n ∙ q))
 noted_alone m answered.Later v f w old new of e n out q = ends_worn m answered.Later v f w of e (out (sym n ∙ q))
 noted_alone m answered.TooLarge v f w old new of e n out q = ends_worn m answered.TooLarge v f w of e (out (sym n ∙ q))

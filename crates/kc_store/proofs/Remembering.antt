@@ -14,7 +14,7 @@ use Rattle.kc_store.specs.Answers.{Gains, Settles, WasOvertaken, own_entries, pl
 use Rattle.kc_store.specs.Knows.{AddsOne, CommitsSo, IsOvertaken, IsTold, IsToldBelow, IsWithin, OnlyLearns, Remembers, TriesSo, entries_of}
 use Rattle.kc_store.specs.Knows.{none as nothing, here as first, later as rest}
 use Rattle.kc_store.specs.Values.{IsOutcome, IsTry, answered_in, verdict_in}
-use Rattle.kc_store.specs.Verdicts.{has_entry, verdict_of}
+use Rattle.kc_store.specs.Verdicts.{has_entry, is_worn_pool, verdict_of}
 use Rattle.kc_store.specs.Views.{CallerView, caller_view, store_view}
 use Rattle.kc_store.specs.declared.values.Outcome.{Outcome}
 use Rattle.kc_store.specs.declared.values.Outcome.TheVariants as outcome
@@ -26,6 +26,7 @@ use Rattle.kc_store.specs.declared.verdict.Answered.TheVariants as answered
 use Rattle.kc_store.specs.declared.verdict.Verdict.{Verdict}
 use Rattle.kc_store.specs.declared.verdict.Verdict.TheVariants as verdict
 use Rattle.kc_hang.specs.kc_table_moves.Views.{SeatView, knows}
+use Rattle.kc_hang.proofs.kc_table_laws.Keeping.{keeps_same, keeps_then}
 use Rattle.kc_hang.specs.kc_table_laws.Tasks.{KeepsKnown}
 use Rattle.kc_xt.specs.Meaning.{Meaning}
 
@@ -70,16 +71,16 @@ still_told true before now e q = e
 still_told false before now e q = e ∙ q
 
 pub remembers : (before now : Bool) (v w : SeatView) → (before ≡ true → now ≡ true) → KeepsKnown v w → Remembers (caller_view before v) (caller_view now w)
-remembers before now v w told k = record { of = ap store_view k.of; number = k.number; known = entries_within k.grows.0; worn = told }
+remembers before now v w told k = record { of = ap store_view k.of; number = k.number; known = entries_within k.grows.0; worn = told; keeps = k }
 
 pub only_learns : (worn : Bool) (v w : SeatView) → KeepsKnown v w → own_entries w ≡ own_entries v → OnlyLearns (caller_view worn v) (caller_view worn w)
 only_learns worn v w k own = record { remembers = remembers worn worn v w (λ q. q) k; own = ap entries own; worn = refl }
 
 pub remembers_on : (c d e : CallerView) → Remembers c d → Remembers d e → Remembers c e
-remembers_on c d e a b = record { of = b.of ∙ a.of; number = b.number ∙ a.number; known = within_on a.known b.known; worn = λ q. b.worn (a.worn q) }
+remembers_on c d e a b = record { of = b.of ∙ a.of; number = b.number ∙ a.number; known = within_on a.known b.known; worn = λ q. b.worn (a.worn q); keeps = keeps_then c.seat d.seat e.seat a.keeps b.keeps }
 
 pub learns_same : (c : CallerView) → OnlyLearns c c
-learns_same c = record { remembers = record { of = refl; number = refl; known = within_same c.known; worn = λ q. q }; own = refl; worn = refl }
+learns_same c = record { remembers = record { of = refl; number = refl; known = within_same c.known; worn = λ q. q; keeps = keeps_same c.seat }; own = refl; worn = refl }
 
 pub learns_on : (c d e : CallerView) → OnlyLearns c d → OnlyLearns d e → OnlyLearns c e
 learns_on c d e a b = record { remembers = remembers_on c d e a.remembers b.remembers; own = b.own ∙ a.own; worn = b.worn ∙ a.worn }
@@ -108,14 +109,14 @@ overtaken before now v f l version w o = record {
 }
 
 module _ (before now : Bool) (m : Meaning) where
-  pub told : (a : Verdict) (v : SeatView) (f : Footprint) (w : SeatView) → Settles m a v f w → IsTold m a (caller_view before v) f (caller_view now w)
-  told (verdict.Done r) v f w s = (s.0, adds_one before now v f w s.1)
-  told verdict.Later v f w s = (s.0, (s.1.0, adds_one before now v f w s.1.1))
-  told verdict.TooLarge v f w s = (s.0, (s.1.0, adds_one before now v f w s.1.1))
-  told (verdict.WornLocation loc) v f w s = (s.0, (s.1.0, adds_one before now v f w s.1.1))
-  told verdict.WornPool v f w s = ap entries s.1
-  told (verdict.Lost loc version) v f w s = (overtaken before now v f loc.0 version w s.0, ap entries s.1)
-  told (verdict.Busy steps) v f w s = ap entries s.1
+  pub told : (a : Verdict) (v : SeatView) (f : Footprint) (w : SeatView) → now ≡ (is_worn_pool a || before) → Settles m a v f w → IsTold m a (caller_view before v) f (caller_view now w)
+  told (verdict.Done r) v f w n s = (s.0, adds_one before now v f w s.1)
+  told verdict.Later v f w n s = (s.0, (s.1.0, adds_one before now v f w s.1.1))
+  told verdict.TooLarge v f w n s = (s.0, (s.1.0, adds_one before now v f w s.1.1))
+  told (verdict.WornLocation loc) v f w n s = (s.0, (s.1.0, adds_one before now v f w s.1.1))
+  told verdict.WornPool v f w n s = (n, ap entries s.1)
+  told (verdict.Lost loc version) v f w n s = (overtaken before now v f loc.0 version w s.0, ap entries s.1)
+  told (verdict.Busy steps) v f w n s = (s.0, ap entries s.1)
 
 -- ---- by value
 

@@ -1,10 +1,9 @@
 -- The looks of a try: what they know, and that nothing known before put from what they saw.
-use Rattle.std.proofs.Common.{◌≡◌, ℕ, ◌⊎◌, inl, inr, List, [], ◌∷◌, refl, sym, ap, ◌∙◌, arith, subst}
+use Rattle.std.proofs.Common.{◌≡◌, ℕ, ◌⊎◌, inl, inr, List, [], ◌∷◌, sym, ap, ◌∙◌, arith, subst}
 use Rattle.std.specs.Prelude.{Contains, Result, Ok, Err}
 use Rattle.kc_hang.specs.kc_machine_traces.Claims.{HasPut}
 use Rattle.kc_hang.specs.kc_machine_traces.Histories.{IsKnown}
 use Rattle.kc_hang.specs.kc_machine_traces.Traces.{first_store}
-use Rattle.kc_hang.proofs.kc_machine_history.Insertions.{grows_on, grows_same}
 use Rattle.kc_machine_steps.specs.declared.task.Task.{Task}
 use Rattle.kc_machine_steps.specs.declared.task.Told.{Told}
 use Rattle.kc_machine_steps.specs.declared.task.Told.TheVariants as told
@@ -17,24 +16,12 @@ use Rattle.kc_store.specs.Tries.{TaskComes, Sees, look_of}
 use Rattle.kc_store.specs.Works.{EndsOrIsLeft}
 use Rattle.kc_store.specs.declared.budget.Budget.{Budget}
 use Rattle.kc_hang.specs.kc_table_moves.Views.{SeatView, knows, opening_at_seat}
-use Rattle.kc_hang.proofs.kc_table_laws.Keeping.{looks_saw, put_past}
+use Rattle.kc_hang.proofs.kc_table_laws.Keeping.{keeps_same, keeps_then, looks_saw, put_past}
 use Rattle.kc_hang.specs.kc_table_laws.Tasks.{DoesTask, KeepsKnown, Saw}
 use Rattle.kc_xt.specs.Peeks.{Looks}
 use Rattle.kc_xt.specs.declared.peek.PeekBusy.{PeekBusy}
 
 -- ---- keeping
-
-pub keeps_same : (v : SeatView) → KeepsKnown v v
-keeps_same v = record { of = refl; number = refl; grows = grows_same (knows v); reads = λ r k. k; versions = λ l. omega arith }
-
-pub keeps_then : (u v w : SeatView) → KeepsKnown u v → KeepsKnown v w → KeepsKnown u w
-keeps_then u v w a b = record {
-  of = b.of ∙ a.of;
-  number = b.number ∙ a.number;
-  grows = grows_on (knows u) (knows v) (knows w) a.grows b.grows;
-  reads = λ r k. b.reads r (a.reads r k);
-  versions = λ l. let x = a.versions l in let y = b.versions l in omega (arith, x, y);
-}
 
 pub come_keeps : (start v : SeatView) (t : Task) (a : Told) (w : SeatView) → TaskComes start v t a w → KeepsKnown v w
 come_keeps start v t a w (inl s) = did_keeps v w t s.did

@@ -21,7 +21,7 @@ use Rattle.kc_store.proofs.Doing.{did_keeps}
 use Rattle.kc_store.proofs.Among.{grows_in}
 use Rattle.kc_store.proofs.Gaining.{all_from, gains, overtaken}
 use Rattle.kc_store.proofs.ReadLooks.{was_looked_at}
-use Rattle.kc_store.proofs.Seeing.{Fresh, come_keeps, keeps_then, look_gains_none, look_keeps, looks_fresh, looks_gain_none, looks_keep}
+use Rattle.kc_store.proofs.Seeing.{Fresh, come_keeps, look_gains_none, look_keeps, looks_fresh, looks_gain_none, looks_keep}
 use Rattle.kc_store.specs.Answers.{Gains, GainsNothing, IsBusy, Settles, WasOvertaken, own_entries, placed_entry}
 use Rattle.kc_store.specs.Steps.{busy_bound}
 use Rattle.kc_store.specs.Tries.{TaskComes, SwapsOrInstalls, CommitsAfter, Installs, once, again, bare_footprint, behind_swap, by_install, by_swap, Sees, Tries, WasTold, is_told_crossed, look_of, swap_ends}
@@ -37,7 +37,7 @@ use Rattle.kc_store.specs.declared.verdict.Verdict.{Verdict}
 use Rattle.kc_store.specs.declared.verdict.Verdict.TheVariants as verdict
 use Rattle.kc_hang.specs.kc_table_moves.Views.{SeatView, TableView, knows, opening_at_seat}
 use Rattle.kc_hang.proofs.kc_table_laws.Causing.{worn_found}
-use Rattle.kc_hang.proofs.kc_table_laws.Keeping.{failure_known, success_known, swap_failure_known, swap_success_known}
+use Rattle.kc_hang.proofs.kc_table_laws.Keeping.{failure_known, keeps_then, success_known, swap_failure_known, swap_success_known}
 use Rattle.kc_hang.specs.kc_table_views.Tasks.{FailureTaught, SuccessTaught}
 use Rattle.kc_hang.specs.kc_table_laws.Tasks.{DoesTask, KeepsKnown}
 use Rattle.kc_xt.specs.Commit.{Came, Looked, LooksIn, PutsWhereDone, tried_of}

@@ -22,7 +22,6 @@ use Rattle.kc_model.specs.declared.footprint.Seen.{Seen}
 use Rattle.kc_store.proofs.Doing.{did_gains, did_keeps}
 use Rattle.kc_store.proofs.Quiet.{first_unowned, idle_owns, learns_none, learns_unowned, runs_waits, step_gains_none, step_unowned, waits, waits_owns}
 use Rattle.kc_store.proofs.Remembering.{only_learns}
-use Rattle.kc_store.proofs.Seeing.{keeps_then}
 use Rattle.kc_store.specs.Answers.{own_entries}
 use Rattle.kc_store.specs.Hanging.{InState, IsUnowned, HangingStands}
 use Rattle.kc_store.specs.Knows.{OnlyLearns}
@@ -31,7 +30,7 @@ use Rattle.kc_store.specs.Views.{caller_view}
 use Rattle.kc_store.specs.Works.{StaysWorn}
 use Rattle.kc_hang.specs.kc_table_moves.Views.{Learns, SeatView, Stepped}
 use Rattle.kc_hang.proofs.kc_table_laws.Causing.{worn_load, worn_step, worn_task}
-use Rattle.kc_hang.proofs.kc_table_laws.Keeping.{loads_keep, steps_keep}
+use Rattle.kc_hang.proofs.kc_table_laws.Keeping.{keeps_then, loads_keep, steps_keep}
 use Rattle.kc_hang.specs.kc_table_laws.Tasks.{KeepsKnown}
 
 pub all_below : (n : ℕ) (f : Footprint) → IsBelow n f → All (λ (r : Seen). r.loc.0 < n) f.reads.items
@@ -101,7 +100,7 @@ module _ (state : HangState) (b : Bool) (reads : ArrayVec Seen) (v w : SeatView)
         go false n q s =
             let u : SeatView = record v { seat = begun v.seat (task_of h); began = true } in
             let k : KeepsKnown u w = steps_keep u w s in
-            only_learns worn v w (record { of = k.of; number = k.number; grows = k.grows; reads = k.reads; versions = k.versions }) (step_gains_none u w (first_unowned u w refl s) q s)
+            only_learns worn v w (record { of = k.of; number = k.number; past = k.past; grows = k.grows; reads = k.reads; versions = k.versions }) (step_gains_none u w (first_unowned u w refl s) q s)
 
     of_table : w.of ≡ v.of
     of_table = go b s

@@ -38,7 +38,7 @@ Concludes s r (answered.Done a) v f w = (r.outcome ≡ replied a) × CanMake s r
 Concludes s r answered.Later v f w = (r.outcome ≡ retried) × OnlyReads s r f × TableRests v w
 Concludes s r answered.TooLarge v f w = (r.outcome ≡ too_large) × OnlyReads s r f × TableRests v w
 Concludes s r (answered.WornLocation loc) v f w = Replies r × IsWorn s r.touches loc.0 × OnlyReads s r f × TableRests v w
-Concludes s r answered.WornPool v f w = Replies r × CanMake s r.touches × HasNoLife v × TableRests v w
+Concludes s r answered.WornPool v f w = Replies r × CanMake s r.touches × HasNoLife v × OnlyReads s r f × TableRests v w
 
 -- a call of a meaning that was answered so
 abbrev pub EndsAlone : Meaning → Answered → SeatView → Footprint → SeatView → Type 0
@@ -88,7 +88,7 @@ ToldAlone s r (answered.Done a) c f d = (r.outcome ≡ replied a) × Makes s r.t
 ToldAlone s r answered.Later c f d = (r.outcome ≡ retried) × OnlyReads s r f × Leaves c d
 ToldAlone s r answered.TooLarge c f d = (r.outcome ≡ too_large) × OnlyReads s r f × Leaves c d
 ToldAlone s r (answered.WornLocation loc) c f d = Replies r × IsWorn s r.touches loc.0 × OnlyReads s r f × Leaves c d
-ToldAlone s r answered.WornPool c f d = Replies r × Leaves c d
+ToldAlone s r answered.WornPool c f d = Replies r × OnlyReads s r f × Leaves c d
 
 -- a call of a meaning by the only caller that was answered so
 abbrev pub IsToldAlone : Meaning → Answered → CallerView → Footprint → CallerView → Type 0

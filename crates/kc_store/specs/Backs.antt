@@ -13,6 +13,10 @@ pub record AreAllCallers (z : StoreView) (callers : List CallerView) : Type 0 wh
   pub of : All (λ (c : CallerView). c.of ≡ z) callers
   pub all : AreAllBelow z.callers (map (λ (c : CallerView). c.number) callers)
 
+-- a caller is what its seat shows, and what it was told
+abbrev pub ShowsItsSeat : CallerView → Type 0
+ShowsItsSeat c = c ≡ caller_view c.worn c.seat
+
 -- what contracts see of a caller is what its seat shows, which rests, and what it was told
 pub record ShowsRest (c : CallerView) (v : SeatView) : Type 0 where
   pub rests : Rests v

@@ -1,6 +1,7 @@
 -- What calls leave of what a caller knows, and what they add to its own entries.
 use Rattle.std.specs.Prelude.{◌≡◌, ◌≢◌, ◌==◌, ℕ, ◌+◌, ◌<◌, ◌++◌, ◌||◌, [], ◌∷◌, true, List, All, Contains, get_or, length}
 use Rattle.std.specs.List.{filter}
+use Rattle.kc_hang.specs.kc_table_laws.Tasks.{KeepsKnown}
 use Rattle.kc_model.specs.Footprint.{IsBelow, Puts, Reads}
 use Rattle.kc_model.specs.Legal.{IsLegal}
 use Rattle.kc_model.specs.declared.footprint.Entry.{Entry}
@@ -8,6 +9,7 @@ use Rattle.kc_model.specs.declared.footprint.Footprint.{Footprint}
 use Rattle.kc_model.specs.declared.footprint.Put.{Put}
 use Rattle.kc_model.specs.declared.footprint.Seen.{Seen}
 use Rattle.kc_model.specs.declared.reply.Answer.TheVariants as answer
+use Rattle.kc_store.specs.Answers.{IsBusy}
 use Rattle.kc_store.specs.Verdicts.{is_worn_pool}
 use Rattle.kc_store.specs.Views.{CallerView, PastView, StoreView, last, store_opening}
 use Rattle.kc_store.specs.declared.values.Outcome.{Outcome}
@@ -28,12 +30,13 @@ pub data IsWithin : List Entry → List Entry → Type 0 where
   here : {e : Entry} {a b : List Entry} → IsWithin a b → IsWithin (e ∷ a) (e ∷ b)
   later : {e : Entry} {a b : List Entry} → IsWithin a b → IsWithin a (e ∷ b)
 
--- the same caller of the same store; what it knew it knows, and who was told that no descriptor has a life left was told so
+-- the same caller of the same store; what it knew it knows, its seat's past goes on, and who was told that no descriptor has a life left was told so
 pub record Remembers (c d : CallerView) : Type 0 where
   pub of : d.of ≡ c.of
   pub number : d.number ≡ c.number
   pub known : IsWithin c.known d.known
   pub worn : c.worn ≡ true → d.worn ≡ true
+  pub keeps : KeepsKnown c.seat d.seat
 
 -- likewise, with no entry more of its own, and not told so by this
 pub record OnlyLearns (c d : CallerView) : Type 0 where
@@ -79,15 +82,23 @@ pub record IsOvertaken (c : CallerView) (f : Footprint) (l version : ℕ) (d : C
   pub there : put.loc ≡ read.loc
   pub ends : put.version ≡ read.version
 
+-- no descriptor has a life left, as the caller keeps in mind
+abbrev pub IsToldPoolWorn : CallerView → CallerView → Type 0
+IsToldPoolWorn c d = (d.worn ≡ true) × AddsNone c d
+
+-- it was given up, with so many steps made, all of those that a call makes
+abbrev pub IsGivenUp : CallerView → ℕ → CallerView → Type 0
+IsGivenUp c steps d = IsBusy c.seat steps d.seat × AddsNone c d
+
 -- a call of a meaning that was answered so: what the answer says of the meaning wherever the footprint's reads stand, and what the call added
 abbrev pub IsTold : Meaning → Verdict → CallerView → Footprint → CallerView → Type 0
 IsTold m (verdict.Done r) c f d = Answers m (answer.Reply r) f × AddsOne c f d
 IsTold m verdict.Later c f d = Waits m f × AddsLook c f d
 IsTold m verdict.TooLarge c f d = Answers m answer.TooLarge f × AddsLook c f d
 IsTold m (verdict.WornLocation loc) c f d = Wears m loc.0 f × AddsLook c f d
-IsTold m verdict.WornPool c f d = AddsNone c d
+IsTold m verdict.WornPool c f d = IsToldPoolWorn c d
 IsTold m (verdict.Lost loc version) c f d = IsOvertaken c f loc.0 version d × AddsNone c d
-IsTold m (verdict.Busy steps) c f d = AddsNone c d
+IsTold m (verdict.Busy steps) c f d = IsGivenUp c steps d
 
 -- ---- likewise, of answers that own their footprint, which lies below the meaning's end
 
@@ -99,16 +110,16 @@ TriesSo m end (one.Done r f) c d = IsToldBelow m end (verdict.Done r) c f d
 TriesSo m end (one.Later f) c d = IsToldBelow m end verdict.Later c f d
 TriesSo m end (one.TooLarge f) c d = IsToldBelow m end verdict.TooLarge c f d
 TriesSo m end (one.Worn (wear.Location loc f)) c d = IsToldBelow m end (verdict.WornLocation loc) c f d
-TriesSo m end (one.Worn wear.Pool) c d = AddsNone c d
+TriesSo m end (one.Worn wear.Pool) c d = IsToldPoolWorn c d
 TriesSo m end (one.Lost loc version) c d = (f : Footprint) × IsTold m (verdict.Lost loc version) c f d
-TriesSo m end (one.Busy steps) c d = AddsNone c d
+TriesSo m end (one.Busy steps) c d = IsGivenUp c steps d
 
 abbrev pub CommitsSo : Meaning → ℕ → Outcome → CallerView → CallerView → Type 0
 CommitsSo m end (outcome.Done r f) c d = IsToldBelow m end (verdict.Done r) c f d
 CommitsSo m end (outcome.Later f) c d = IsToldBelow m end verdict.Later c f d
 CommitsSo m end (outcome.TooLarge f) c d = IsToldBelow m end verdict.TooLarge c f d
 CommitsSo m end (outcome.Worn (wear.Location loc f)) c d = IsToldBelow m end (verdict.WornLocation loc) c f d
-CommitsSo m end (outcome.Worn wear.Pool) c d = AddsNone c d
+CommitsSo m end (outcome.Worn wear.Pool) c d = IsToldPoolWorn c d
 
 -- ---- openings
 

@@ -2,8 +2,10 @@ pub mod Steps
 pub mod Tries
 pub mod Answers
 pub mod Works
+pub mod PutCount
 pub mod Peeks
 pub mod Verdicts
+pub mod Viewing
 pub mod Commits
 pub mod Values
 pub mod Alone
@@ -17,6 +19,7 @@ pub mod Reads
 pub mod Backs
 pub mod Hanging
 pub mod HangingView
+pub mod Entering
 pub use Rattle.kc_hang.specs as kc_hang
 pub use Rattle.kc_hang.specs.kc_machine as kc_machine
 pub use Rattle.kc_hang.specs.kc_machine_traces as kc_machine_traces

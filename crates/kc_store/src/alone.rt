@@ -20,12 +20,13 @@ ghost use Rattle.kc_xt.specs.Meaning.{limited};
 
 use crate::sole_peek::run_alone;
 use crate::store::{Caller, Store};
+use crate::trying::show_reads_alone;
 use crate::values::Wear;
 use crate::verdict::Answered;
 use kc_machine_steps::Told;
 use kc_machine_words::Mode;
 use kc_model::{Footprint, Line, MOST, Reply};
-use kc_table::{KcSeat, KcTable};
+use kc_table::{KcSeat, KcTable, Wakes};
 use kc_xt::{Room, Transact, Tried};
 
 /// What a transaction by the only caller answers, with what it read and put.
@@ -56,7 +57,7 @@ impl Sole {
 impl Store {
     /// A transaction by the only caller, of a store that was opened for one: it is told exactly what the transaction comes to on
     /// what stands, or what is worn out. The footprint is filled with what stood at each location touched, and at Done with
-    /// what it put. It takes no memory, never waits, and makes at most 32,768 steps. A caller that is told `WornPool` keeps it in
+    /// what it put, and else it has no puts. It takes no memory, never waits, and makes at most 32,768 steps. A caller that is told `WornPool` keeps it in
     /// mind, as at a try.
     pub fn sole_into<T: Transact>(
         &mut self,
@@ -137,6 +138,7 @@ fn end_alone<T: Transact>(
                 return Answered::Done(reply);
             }
             *worn = true;
+            show_reads_alone(footprint);
             Answered::WornPool
         }
         Tried::Later => Answered::Later,
@@ -159,9 +161,11 @@ fn commit_alone(table: &KcTable, seat: &mut KcSeat, footprint: &Footprint, lines
     ensures { CommitsAlone footprint.now result seat.old seat.new }
 {
     table.commit(seat, footprint, Mode::All, lines);
+    let mut wakes = Wakes::none();
     'steps: while seat.busy() {
-        table.step(seat);
+        table.step(seat, &mut wakes);
     }
+    table.wake(wakes);
     !is_worn(seat.told())
 }
 

@@ -14,11 +14,12 @@ use crate::store::{Caller, Store};
 use crate::trying::try_quietly;
 use crate::verdict::{Fate, note_worn};
 use kc_model::Footprint;
+use kc_table::Wakes;
 use kc_xt::{Transact, Trial};
 
 impl Store {
     /// One try, as `try_commit_into`, whose reply stays where it lies, in the trial: what it answers is `verdict_as` of the two. It
-    /// wakes nobody: whom its steps have signalled is the caller's to take (`Caller::take_wakes`).
+    /// wakes nobody: whom its steps signal it notes, and they are the caller's to wake.
     // It is in line, so that a transaction that its caller knows is known in it, whoever else tries one of that type.
     #[inline(always)]
     pub fn try_in_place<T: Transact>(
@@ -27,6 +28,7 @@ impl Store {
         transaction: &T,
         trial: &mut Trial,
         footprint: &mut Footprint,
+        wakes: &mut Wakes,
     ) -> Fate
         requires caller { caller.old.of ≡ self.now }
         requires fit { T.is_fit transaction.now }
@@ -49,6 +51,7 @@ impl Store {
             transaction,
             trial,
             footprint,
+            wakes,
         );
         note_worn(&mut caller.worn, fate);
         fate

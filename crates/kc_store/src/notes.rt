@@ -3,6 +3,7 @@
 ghost use Rattle.std.specs.Prelude.{◌≡◌, All, map};
 ghost use Rattle.kc_store.specs.Backs.{AreAllCallers, ShowsRest};
 ghost use Rattle.kc_store.specs.Knows.{IsHistory, IsWithin, OnlyLearns};
+ghost use Rattle.kc_store.specs.Views.{past_view};
 ghost use Rattle.kc_hang.specs.kc_table_moves.Views.{IsPast, Joined};
 
 use crate::store::{Caller, Store};
@@ -100,6 +101,7 @@ impl Store {
         requires { AreAllCallers self (map H.caller callers.items) }
         ensures history { IsHistory self (map H.caller callers.items) result }
         ensures past { IsPast self.table (map H.seat callers.items) result.past }
+        ensures shown { result ≡ past_view result.past }
     {
         all_rest(&callers);
         let Store {

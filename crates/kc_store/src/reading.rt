@@ -3,7 +3,7 @@
 ghost use Rattle.std.specs.Prelude.{◌≡◌, ◌<◌};
 ghost use Rattle.kc_hang.specs.kc_table_laws.Tasks.{KeepsKnown};
 ghost use Rattle.kc_store.specs.Knows.{OnlyLearns};
-ghost use Rattle.kc_store.specs.Reads.{IsReadOrBusy};
+ghost use Rattle.kc_store.specs.Reads.{IsReadOrBusy, LooksOnce};
 
 use crate::budget::Budget;
 use crate::looks::look_at;
@@ -20,7 +20,9 @@ pub struct ReadBusy {
 impl Store {
     /// What stands at a location, with its version, without a transaction: by one load where a plain word stands there, and else by
     /// the further steps of a look. It is what some front of the history that the caller knows now makes there, and no older than
-    /// what the caller knew; two reads may show two moments. It has no entry, takes no memory, never waits, and signals nobody.
+    /// what the caller knew; two reads may show two moments. Entries of other callers may still come to stand before known ones, so
+    /// the history that is left in the end may have no such front; what a view of the location shows it has. It has no entry, takes
+    /// no memory, never waits, and signals nobody.
     ///
     /// # Errors
     ///
@@ -32,6 +34,7 @@ impl Store {
         ensures reads { IsReadOrBusy at.0 result caller.old caller.new }
         ensures learns { OnlyLearns caller.old caller.new }
         ensures keeps { KeepsKnown caller.old.seat caller.new.seat }
+        ensures once { LooksOnce at.0 result caller.old.seat caller.new.seat }
     {
         let seat: &mut KcSeat = &mut caller.seat;
         let before = seat.steps();

@@ -81,14 +81,6 @@ impl Caller {
         let _seat = &self.seat;
     }
 
-    /// Whom its steps have signalled since this was last asked, a bit for each number, and so may have to be woken. All calls but
-    /// `Store::try_in_place` wake these themselves. No contract says whom.
-    pub fn take_wakes(&mut self) -> u64
-        ensures { self.new ≡ self.old }
-    {
-        self.seat.take_wakes()
-    }
-
     // A caller with this seat, and this room for its attempts. `worn`: it was told that no descriptor has a life left.
     pub(crate) fn of(seat: Box<KcSeat>, room: Box<Room>, worn: bool) -> Caller
         requires rests { Rests seat.value }

@@ -15,19 +15,20 @@ ghost use Rattle.kc_hang.specs.kc_table_moves.Views.{KnowsReads, SeatView, openi
 ghost use Rattle.kc_hang.specs.kc_table_laws.Halts.{is_halted, may_halt, was_halted};
 ghost use Rattle.kc_store.specs.Steps.{steps_made};
 ghost use Rattle.kc_store.specs.Tries.{is_told_crossed};
-ghost use Rattle.kc_store.specs.Works.{AllCommitted, AllInstalled, EndsOrIsLeft, MayRun, Runs, is_one_put_line, is_told_committing, is_told_swapping, is_told_worn};
+ghost use Rattle.kc_store.specs.Works.{AllCommitted, AllInstalled, EndsOrIsLeft, MayRun, Runs, is_looking, is_one_put_line, is_told_committing, is_told_swapping, is_told_worn};
 ghost use Rattle.kc_hang.specs.kc_table_laws.Told.{IsWornOut};
 
 use crate::budget::Budget;
 use kc_machine_steps::Told;
 use kc_machine_words::Mode;
 use kc_model::{Footprint, Line, Seen};
-use kc_table::{KcSeat, KcTable};
+use kc_table::{KcSeat, KcTable, Wakes};
 
-/// Ends the task that runs: by as many steps as are left, and then by a halt.
+/// Ends the task that runs: by as many steps as are left, and then by a halt. It notes whom they signal: a look
+/// signals nobody.
 #[cold]
 #[inline(never)]
-pub(crate) fn end_task(table: &KcTable, seat: &mut KcSeat, budget: Budget)
+pub(crate) fn end_task(table: &KcTable, seat: &mut KcSeat, budget: Budget, wakes: &mut Wakes)
     requires table { seat.old.of ≡ table.now }
     requires busy { is_idle seat.old.seat.work ≡ false }
     requires shown { seat.old.began ≡ false }
@@ -36,17 +37,18 @@ pub(crate) fn end_task(table: &KcTable, seat: &mut KcSeat, budget: Budget)
     ensures runs { (v : SeatView) (t : Task) → Runs v t seat.old → MayRun v t seat.new }
     ensures idle { is_idle seat.new.seat.work ≡ true }
     ensures spent { seat.new.seat.told ≡ Some told.Halted → budget.most + steps_made seat.old ≤ steps_made seat.new + (seat.old.seat.made - budget.before) }
+    ensures mute { is_looking seat.old.seat.work seat.old.seat.told ≡ true → wakes.new ≡ wakes.old }
 {
     let mut left = budget.left(seat);
-    step_on(table, seat, &mut left);
+    step_on(table, seat, &mut left, wakes);
     if seat.busy() {
         seat.halt();
-        step_to_the_end(table, seat);
+        step_to_the_end(table, seat, wakes);
     }
 }
 
 // Steps until the task has ended, or none is left.
-fn step_on(table: &KcTable, seat: &mut KcSeat, left: &mut u64)
+fn step_on(table: &KcTable, seat: &mut KcSeat, left: &mut u64, wakes: &mut Wakes)
     requires table { seat.old.of ≡ table.now }
     requires busy { is_idle seat.old.seat.work ≡ false }
     requires shown { seat.old.began ≡ false }
@@ -59,24 +61,26 @@ fn step_on(table: &KcTable, seat: &mut KcSeat, left: &mut u64)
     ensures calm { is_idle seat.new.seat.work ≡ true → seat.new.seat.told ≢ Some told.Halted }
     ensures spent { is_idle seat.new.seat.work ≡ false → left.new ≡ 0 }
     ensures made { steps_made seat.old + left.old ≤ steps_made seat.new + left.new }
+    ensures mute { is_looking seat.old.seat.work seat.old.seat.told ≡ true → (is_looking seat.new.seat.work seat.new.seat.told ≡ true) × (wakes.new ≡ wakes.old) }
 {
     'steps: while *left > 0 && seat.busy() {
-        table.step(seat);
+        table.step(seat, wakes);
         *left -= 1;
     }
 }
 
 // Steps until a task that was halted has ended.
-fn step_to_the_end(table: &KcTable, seat: &mut KcSeat)
+fn step_to_the_end(table: &KcTable, seat: &mut KcSeat, wakes: &mut Wakes)
     requires table { seat.old.of ≡ table.now }
     requires shown { seat.old.began ≡ false }
     requires halted { is_idle seat.old.seat.work ≡ false → is_halted seat.old.seat ≡ true }
     ensures runs { (v : SeatView) (t : Task) → MayRun v t seat.old → MayRun v t seat.new }
     ensures idle { is_idle seat.new.seat.work ≡ true }
     ensures made { steps_made seat.old ≤ steps_made seat.new }
+    ensures mute { is_looking seat.old.seat.work seat.old.seat.told ≡ true → (is_looking seat.new.seat.work seat.new.seat.told ≡ true) × (wakes.new ≡ wakes.old) }
 {
     'steps: while seat.busy() {
-        table.step(seat);
+        table.step(seat, wakes);
     }
 }
 
@@ -91,6 +95,7 @@ pub(crate) fn commit(
     lines: &[Line],
     worn: bool,
     budget: Budget,
+    wakes: &mut Wakes,
 ) -> Told
     requires table { seat.old.of ≡ table.now }
     requires idle { is_idle seat.old.seat.work ≡ true }
@@ -103,12 +108,12 @@ pub(crate) fn commit(
     ensures worn { worn ≡ true → is_told_worn result ≡ true }
 {
     if let Some((seen, after)) = only_put(lines, worn) {
-        let told = swap(table, seat, seen, after, budget);
+        let told = swap(table, seat, seen, after, budget, wakes);
         if !is_crossed(told) {
             return told;
         }
     }
-    install(table, seat, footprint, lines, budget)
+    install(table, seat, footprint, lines, budget, wakes)
 }
 
 // The read and the value of the only line, where it puts and may be swapped.
@@ -137,7 +142,14 @@ fn only_put(lines: &[Line], worn: bool) -> Option<(Seen, u32)>
 
 // One swap.
 #[inline(always)]
-fn swap(table: &KcTable, seat: &mut KcSeat, seen: Seen, after: u32, budget: Budget) -> Told
+fn swap(
+    table: &KcTable,
+    seat: &mut KcSeat,
+    seen: Seen,
+    after: u32,
+    budget: Budget,
+    wakes: &mut Wakes,
+) -> Told
     requires table { seat.old.of ≡ table.now }
     requires idle { is_idle seat.old.seat.work ≡ true }
     requires made { IsWellMadeTask seat.old.of.origin.locations (task.Swap seen after) }
@@ -151,7 +163,7 @@ fn swap(table: &KcTable, seat: &mut KcSeat, seen: Seen, after: u32, budget: Budg
     match table.swap(seat, seen, after) {
         Some(told) => told,
         None => {
-            end_task(table, seat, budget);
+            end_task(table, seat, budget, wakes);
             answer_of(seat)
         }
     }
@@ -164,6 +176,7 @@ fn install(
     footprint: &Footprint,
     lines: &[Line],
     budget: Budget,
+    wakes: &mut Wakes,
 ) -> Told
     requires table { seat.old.of ≡ table.now }
     requires idle { is_idle seat.old.seat.work ≡ true }
@@ -174,9 +187,9 @@ fn install(
     ensures all { AllInstalled footprint.now result seat.old budget seat.new }
     ensures worn { IsWornOut (opening_at_seat seat.old) seat.old.past → is_told_worn result ≡ true }
 {
-    let told = commit_in(table, seat, footprint, Mode::Light, lines, budget);
+    let told = commit_in(table, seat, footprint, Mode::Light, lines, budget, wakes);
     if is_crossed(told) {
-        return commit_in(table, seat, footprint, Mode::All, lines, budget);
+        return commit_in(table, seat, footprint, Mode::All, lines, budget, wakes);
     }
     told
 }
@@ -195,6 +208,7 @@ fn commit_in(
     mode: Mode,
     lines: &[Line],
     budget: Budget,
+    wakes: &mut Wakes,
 ) -> Told
     requires table { seat.old.of ≡ table.now }
     requires idle { is_idle seat.old.seat.work ≡ true }
@@ -210,7 +224,7 @@ fn commit_in(
     }
     table.commit(seat, footprint, mode, lines);
     if seat.busy() {
-        end_task(table, seat, budget);
+        end_task(table, seat, budget, wakes);
         return answer_of(seat);
     }
     answer_of(seat)

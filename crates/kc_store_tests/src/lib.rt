@@ -11,3 +11,5 @@ mod reading;
 mod sole;
 #[cfg(test)]
 mod trying;
+#[cfg(test)]
+mod viewing;

@@ -40,6 +40,31 @@ fn the_least_recent_pair_is_dropped(rt: HostRuntime) -> Result<(), Fail> {
 }
 
 #[test]
+fn a_put_of_a_known_key_makes_it_the_most_recent_one(rt: HostRuntime) -> Result<(), Fail> {
+    let c = Cache::layout(Loc(0), 2, 2);
+    let store = open(
+        rt.alloc(),
+        &[
+            2, 0, 1, 0, 0, 0, 0, 2, 0, 0, 0, 0, 0, 1, 0, 0, 2, 0, 0, 0, 0, 0,
+        ],
+    )?;
+    let mut room = Room::new();
+    let mut xt = Xt::new(PlainPeek::new(&store), &mut room, MOST as u32);
+    tells(&rt, &mut xt, &on(c, CacheAct::CPut(1, 10)), Ok(Reply::Unit));
+    tells(&rt, &mut xt, &on(c, CacheAct::CPut(2, 20)), Ok(Reply::Unit));
+    tells(&rt, &mut xt, &on(c, CacheAct::CPut(1, 11)), Ok(Reply::Unit));
+    tells(&rt, &mut xt, &on(c, CacheAct::CPut(3, 30)), Ok(Reply::Unit));
+    tells(&rt, &mut xt, &on(c, CacheAct::CGet(2)), Ok(Reply::Empty));
+    tells(
+        &rt,
+        &mut xt,
+        &on(c, CacheAct::CGet(1)),
+        Ok(Reply::Value(11)),
+    );
+    Ok(())
+}
+
+#[test]
 fn a_waiting_put_takes_a_place_that_is_free_again(rt: HostRuntime) -> Result<(), Fail> {
     let c = Cache::layout(Loc(0), 2, 2);
     let store = open(

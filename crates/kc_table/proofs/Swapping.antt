@@ -32,7 +32,8 @@ use Rattle.kc_table_moves.specs.declared.view.TheConstants.{MOST_LOADS}
 use Rattle.kc_table_moves.specs.Atoms.{Aims}
 use Rattle.kc_table_moves.specs.Origins.{Origin, opening_of}
 use Rattle.kc_table_moves.specs.Rule.{Moved, MovedWithin, glanced, ReadySeat, number_of, past_of}
-use Rattle.kc_table_moves.specs.Views.{Ran, SeatView, StepsTo, further, here, seat_seen_as}
+use Rattle.kc_table_moves.specs.Signals.{signals}
+use Rattle.kc_table_moves.specs.Views.{RanQuietly, SeatView, StepsQuietly, further, here, seat_seen_as}
 use Rattle.kc_table_moves.specs.declared.view.View.{View}
 
 -- a swap that finds this word puts its own: it is what was seen
@@ -62,7 +63,7 @@ module _ (s : Seat) (r : Seen) (after : ℕ) (idle : is_idle s.work ≡ true) wh
   aims_by : (q : Origin) (n : ℕ) (t : Touch Word) (ch : Change) → exchange r after s.calls ≡ t → n ≡ place 0 (word r.loc.0) → word_change t ≡ ch → TouchIn ValueFits t → Aims q first n ch
   aims_by q n t ch e f m x =
       let is : access.Location r.loc t ≡ access_of first = ap (access.Location r.loc) (sym e) ∙ swap_accesses in
-      record { place = f ∙ ap (λ a. place (base_of q.locations) (cell_of a)) is; makes = ap change_of (sym is) ∙ m; ranged = subst ValuesFit is x }
+      record { place = f ∙ ap (λ a. place (base_of q.locations) (cell_of a)) is; makes = ap change_of (sym is) ∙ m; ranged = subst ValuesFit is x; mute = ap signals (sym is) }
 
   pub exchange_aims : (q : Origin) (n old new : ℕ) → may_swap s.calls ≡ true → n ≡ place 0 (word r.loc.0) → old ≡ packed (seen_word r) → new ≡ packed (word_after r after) → r.value < 2 ^ 32 → after < 2 ^ 32 → Aims q first n (change.CompareExchange old new)
   exchange_aims q n old new low f a b x y = aims_by q n (CompareExchange (seen_word r) (word_after r after)) (change.CompareExchange old new) (ap (λ c. if c then CompareExchange (seen_word r) (word_after r after) else Load) low) f (λ i. change.CompareExchange (sym a i) (sym b i)) (x, y)
@@ -89,7 +90,7 @@ module _ (s : Seat) (r : Seen) (after : ℕ) (idle : is_idle s.work ≡ true) wh
     wake_accesses = rw (idle, low, v_same, x_same) refl
 
     pub wake_aims : (q : Origin) (n : ℕ) → n ≡ place 0 (awaiters r.loc.0) → Aims q second n (change.Swap 0)
-    wake_aims q n f = rw (idle, low, v_same, x_same) (record { place = f; makes = refl; ranged = tt })
+    wake_aims q n f = rw (idle, low, v_same, x_same) (record { place = f; makes = refl; ranged = tt; mute = refl })
 
 -- ---- the seat where the schedule has it
 
@@ -108,11 +109,14 @@ module _ (s : Seat) (r : Seen) (after : ℕ) (idle : is_idle s.work ≡ true) (m
     abbrev start : SeatView
     start = seat_seen_as z me true (first s r after idle)
 
-    pub first_steps : (u : Seat) → u ≡ one → StepsTo start (seat_seen_as y later false u)
-    first_steps u e = further start (seat_seen_as y later false u) here (swap_busy s r after idle) (stepped_view start true (first s r after idle) u me later z y n refl same m (first_stands u e))
+    pub first_steps : (u : Seat) → u ≡ one → StepsQuietly start (seat_seen_as y later false u)
+    first_steps u e = record {
+      steps = further start (seat_seen_as y later false u) here (swap_busy s r after idle) (stepped_view start true (first s r after idle) u me later z y n refl same m (first_stands u e));
+      quiet = (tt, ap signals (sym (swap_accesses s r after idle)));
+    }
 
-    pub told_at_once : (began : Bool) (v : SeatView) (u : Seat) → seat_seen_as z me began s ≡ v → u ≡ one → Ran v (task.Swap r after) (seat_seen_as y later false u)
-    told_at_once began v u shown e = subst (λ x. Ran x (task.Swap r after) (seat_seen_as y later false u)) shown (record { steps = first_steps u e; shown = refl })
+    pub told_at_once : (began : Bool) (v : SeatView) (u : Seat) → seat_seen_as z me began s ≡ v → u ≡ one → RanQuietly v (task.Swap r after) (seat_seen_as y later false u)
+    told_at_once began v u shown e = subst (λ x. RanQuietly x (task.Swap r after) (seat_seen_as y later false u)) shown (record { steps = first_steps u e; shown = refl })
 
 -- ---- where it has put
 
@@ -128,11 +132,15 @@ module _ (s : Seat) (r : Seen) (after : ℕ) (idle : is_idle s.work ≡ true) (l
   wake_ready u ready e = ready_after (second s r after idle) u false (glanced m.0 mid) later n (ready_glanced m.0 mid false (second s r after idle) ready) m.2 (wake_stands u e)
 
   pub told_behind : (z x y : TableId) (me : Me Unit View) (k : ℕ) (began : Bool) (v : SeatView) (u : Seat) → x ≡ z → y ≡ x → (f : Moved (first s r after idle) true me k mid) → ((w : Word) → IsPackable w → packed w ≡ k → seen_word r ≡ w)
-      → seat_seen_as z me began s ≡ v → u ≡ two → Ran v (task.Swap r after) (seat_seen_as y later false u)
+      → seat_seen_as z me began s ≡ v → u ≡ two → RanQuietly v (task.Swap r after) (seat_seen_as y later false u)
   told_behind z x y me k began v u same equal f back shown e =
-      subst (λ a. Ran a (task.Swap r after) (seat_seen_as y later false u)) shown
+      let one_step = first_steps s r after idle me mid k (seen_word r) f back z x same (second s r after idle) refl in
+      subst (λ a. RanQuietly a (task.Swap r after) (seat_seen_as y later false u)) shown
       (record {
-        steps = further (seat_seen_as x mid false (second s r after idle)) (seat_seen_as y later false u) (first_steps s r after idle me mid k (seen_word r) f back z x same (second s r after idle) refl) (wake_busy s r after idle low)
-            (stepped_late (seat_seen_as x mid false (second s r after idle)) false (second s r after idle) u mid later x y n refl equal (fewer_loads 1 MOST_LOADS (second s r after idle) false mid later n (omega arith) m) (wake_stands u e));
+        steps = record {
+          quiet = (one_step.quiet, ap signals (sym (wake_accesses s r after idle low)));
+          steps = further (seat_seen_as x mid false (second s r after idle)) (seat_seen_as y later false u) one_step.steps (wake_busy s r after idle low)
+              (stepped_late (seat_seen_as x mid false (second s r after idle)) false (second s r after idle) u mid later x y n refl equal (fewer_loads 1 MOST_LOADS (second s r after idle) false mid later n (omega arith) m) (wake_stands u e));
+        };
         shown = refl;
       })

@@ -34,7 +34,8 @@ use Rattle.kc_table_moves.specs.Origins.{Origin, opening_of}
 use Rattle.kc_table_moves.specs.Rule.{number_of, past_of, glanced, ReadySeat, MovedWithin}
 use Rattle.kc_table_moves.specs.Atoms.{Aims, Here, On, found_of, point_of, seat_in}
 use Rattle.kc_table_straight.specs.Straight.{IsWrittenAt, Stopped, StoppedAt}
-use Rattle.kc_table_moves.specs.Views.{SeatView, KnowsReads, Starts, begun_at, seat_seen_as, Stepped, StepsTo, here, further, Ran}
+use Rattle.kc_table_moves.specs.Signals.{signals}
+use Rattle.kc_table_moves.specs.Views.{SeatView, KnowsReads, Starts, begun_at, seat_seen_as, Stepped, StepsQuietly, here, further, Ran, RanQuietly}
 use Rattle.kc_table_moves.specs.declared.atoms.Run.{Run}
 use Rattle.kc_table_moves.specs.declared.atoms.Stop.{Stop}
 use Rattle.kc_table_moves.specs.declared.view.TheConstants.{MOST_LOADS}
@@ -52,6 +53,13 @@ commit_starts v f m idle = (idle, rw idle refl)
 pub look_busy : (s : Seat) (l : Loc) → is_idle s.work ≡ true → is_idle (begun s (task.Look l)).work ≡ false
 look_busy s l e = rw e refl
 
+look_mute : (s : Seat) (l : Loc) → is_idle s.work ≡ true → signals (access_of (begun s (task.Look l))) ≡ false
+look_mute s l e = rw e refl
+
+-- what signals nobody runs
+pub ran : (v : SeatView) (t : Task) (w : SeatView) → RanQuietly v t w → Ran v t w
+ran v t w x = record { steps = x.steps.steps; shown = x.shown }
+
 pub few_lines : (f : Footprint) (m : Mode) (xs : List Line) (n : ℕ) → lines_of f ≡ xs → IsWellMadeTask n (task.Commit f m) → length xs ≤ MOST
 few_lines f m xs n c w = let e : length xs ≡ length f.reads.items = ap length (sym c) ∙ length-map f.reads.items (line_of f.puts.items) in let l = w.2 in omega arith
 
@@ -63,7 +71,7 @@ pub on_begins : (r : Run) (z : TableId) (me : Me Unit View) (began : Bool) (s u 
 on_begins r z me began s u v t h ready shown st made knows e = record {
   here = h;
   ready = subst (ReadySeat me true) e (ready_begun me began s z v t ready shown st made knows);
-  steps = subst (λ x. StepsTo (starts_as z me s t) (seat_seen_as z me true x)) e here;
+  steps = subst (λ x. StepsQuietly (starts_as z me s t) (seat_seen_as z me true x)) e (record { steps = here; quiet = tt });
 }
 
 -- ---- the end
@@ -78,7 +86,7 @@ stands_on start r z me e t stopped stands = go (found_of e.at e.number) stopped.
 -- ---- a look
 
 pub look_aims : (q : Origin) (s : Seat) (l : Loc) (n : ℕ) → is_idle s.work ≡ true → n ≡ place 0 (word l.0) → Aims q (begun s (task.Look l)) n change.Load
-look_aims q s l n e f = rw e (record { place = f; makes = refl; ranged = tt })
+look_aims q s l n e f = rw e (record { place = f; makes = refl; ranged = tt; mute = refl })
 
 -- a load leaves every number
 pub load_leaves : (s : Seat) (takes : ℕ → Bool) → change_of (access_of s) ≡ change.Load → (n : ℕ) → takes n ≡ true → changed (change_of (access_of s)) n ≡ n
@@ -97,11 +105,13 @@ look_steps z y me later began s u v l n shown same m stands = subst (λ x. Stepp
     (stepped_late (starts_as z me s (task.Look l)) true (begun s (task.Look l)) u me later z y n refl same m stands)
 
 pub look_ran : (z y : TableId) (me later : Me Unit View) (began : Bool) (s u : Seat) (v : SeatView) (l : Loc) (n : ℕ) → is_idle s.work ≡ true → seat_seen_as z me began s ≡ v → y ≡ z → MovedWithin MOST_LOADS (begun s (task.Look l)) true me n later
-    → u ≡ (run (opening_of me.0.origin) (past_of later.0.parts)).seats (number_of me.0.parts) → Ran v (task.Look l) (seat_seen_as y later false u)
-look_ran z y me later began s u v l n idle shown same m stands = record {
-  steps = further (begun_at v (task.Look l)) (seat_seen_as y later false u) here (look_busy v.seat l (ap (λ (x : SeatView). is_idle x.seat.work) (sym shown) ∙ idle)) (look_steps z y me later began s u v l n shown same m stands);
-  shown = refl;
-}
+    → u ≡ (run (opening_of me.0.origin) (past_of later.0.parts)).seats (number_of me.0.parts) → RanQuietly v (task.Look l) (seat_seen_as y later false u)
+look_ran z y me later began s u v l n idle shown same m stands =
+    let at_rest : is_idle v.seat.work ≡ true = ap (λ (x : SeatView). is_idle x.seat.work) (sym shown) ∙ idle in
+    record {
+      steps = record { steps = further (begun_at v (task.Look l)) (seat_seen_as y later false u) here (look_busy v.seat l at_rest) (look_steps z y me later began s u v l n shown same m stands); quiet = (tt, look_mute v.seat l at_rest) };
+      shown = refl;
+    }
 
 pub look_ready : (me later : Me Unit View) (s u : Seat) (l : Loc) (n : ℕ) → ReadySeat me true (begun s (task.Look l)) → (m : MovedWithin MOST_LOADS (begun s (task.Look l)) true me n later)
     → u ≡ (run (opening_of me.0.origin) (past_of later.0.parts)).seats (number_of me.0.parts) → ReadySeat later false u

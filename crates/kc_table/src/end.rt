@@ -171,7 +171,6 @@ fn gather<S: HoldsSeat>(words: &mut Words, seats: Vec<S>) -> Token
             machine: _,
             token,
             began: _,
-            wakes: _,
         } = seat;
         words.gather(&mut keeper, token);
     }

@@ -7,7 +7,9 @@ mod open;
 mod seat;
 mod swaps;
 mod table;
+mod wakes;
 
 pub use end::{CloseRefused, Closed, HoldsSeat, Past};
 pub use seat::{KcNote, KcSeat};
 pub use table::{KcTable, MOST_CALLERS};
+pub use wakes::Wakes;

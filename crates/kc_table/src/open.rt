@@ -38,7 +38,6 @@ pub(crate) fn deal_seats(
             machine: Seat::new(number, 3 * callers + 1, 3 * number),
             token,
             began: false,
-            wakes: 0,
             apart: CachePadded::new(()),
         })?;
     }

@@ -27,8 +27,6 @@ pub struct KcSeat {
     pub(crate) token: Token,
     // No word shows yet what has begun since the last step.
     pub(crate) began: bool,
-    // Whom its steps have signalled since this was last taken: a bit for each number.
-    pub(crate) wakes: u64,
 }
 
 impl Model for KcSeat {
@@ -94,16 +92,6 @@ impl KcSeat {
         ensures { result ≡ last_told self.now.seat }
     {
         self.machine.told()
-    }
-
-    /// Whom its steps have signalled since this was last asked, a bit for each number, and so may have to be woken. No contract
-    /// says whom.
-    pub fn take_wakes(&mut self) -> u64
-        ensures { self.new ≡ self.old }
-    {
-        let wakes = self.wakes;
-        self.wakes = 0;
-        wakes
     }
 
     /// The descriptor that it owns and its generation, from its take to its drop.

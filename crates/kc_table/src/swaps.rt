@@ -15,7 +15,7 @@ ghost use Rattle.kc_table_layout.specs.Cells.Cell.{word};
 ghost use Rattle.kc_table_layout.specs.declared.change.Change.TheVariants as change;
 ghost use Rattle.kc_table_moves.specs.Atoms.{Aims, Here, leaves};
 ghost use Rattle.kc_table_moves.specs.Rule.{Moved, MovedWithin, ReadySeat};
-ghost use Rattle.kc_table_moves.specs.Views.{KnowsReads, Ran};
+ghost use Rattle.kc_table_moves.specs.Views.{KnowsReads, Ran, RanQuietly};
 ghost use Rattle.kc_table.specs.Swaps.{OwesSignals, swap_puts};
 
 use crate::seat::KcSeat;
@@ -41,6 +41,7 @@ impl KcTable {
         requires made { IsWellMadeTask seat.old.of.origin.locations (task.Swap seen after) }
         requires known { KnowsReads seat.old (task.Swap seen after) }
         ensures ran { Ran seat.old (task.Swap seen after) seat.new }
+        ensures quiet { RanQuietly seat.old (task.Swap seen after) seat.new }
         ensures told { IfSome result (λ t. (is_idle seat.new.seat.work ≡ true) × (seat.new.seat.told ≡ Some t)) }
         ensures owes { IfNone result (OwesSignals seat.new.seat) }
         ensures loads { seat.new.loads ≤ seat.old.loads + 1 }

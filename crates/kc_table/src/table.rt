@@ -2,12 +2,14 @@
 
 ghost use Rattle.std.specs.Prelude.{◌≡◌, ◌+◌, ◌≤◌, ◌<◌, ◌↔◌, ◌⊎◌, true, false, length, replicate, All, IfOk, Err};
 ghost use Rattle.kc_model.specs.declared.plain_store.TheConstants.{MOST_LOCATIONS};
-ghost use Rattle.kc_machine.specs.Seats.{is_idle};
+ghost use Rattle.kc_machine.specs.Seats.{access_of, is_idle};
 ghost use Rattle.kc_table_moves.specs.Views.{Joined, OpensAt, Signalled, Stepped, opened_seats};
+ghost use Rattle.kc_table_moves.specs.Signals.{with_signalled};
 
 use crate::open::{deal_seats, make_table};
 use crate::seat::{KcNote, KcSeat};
-use kc_machine_words::{Access, LAST_GENERATION};
+use crate::wakes::Wakes;
+use kc_machine_words::LAST_GENERATION;
 use kc_model::{LAST_VERSION, MOST_LOCATIONS, OpenError};
 use kc_table_layout::{base_at, open_words, shown, signal_at};
 use kc_table_moves::{Origin, Words, touch_seat};
@@ -111,12 +113,14 @@ impl KcTable {
         self.locations as u32
     }
 
-    /// One step of the seat, by one atomic operation on one word. Where it signals another seat, that one may sleep until `wake`.
-    pub fn step(&self, seat: &mut KcSeat)
+    /// One step of the seat, by one atomic operation on one word. Where it signals another seat, that one may sleep until `wake`,
+    /// and its bit is set. `look`, `commit` and `swap` signal nobody.
+    pub fn step(&self, seat: &mut KcSeat, wakes: &mut Wakes)
         requires table { seat.old.of ≡ self.now }
         requires busy { is_idle seat.old.seat.work ≡ false }
         ensures stepped { Stepped seat.old seat.new }
         ensures loads { seat.new.loads ≡ seat.old.loads }
+        ensures wakes { wakes.new ≡ with_signalled (access_of seat.old.seat) wakes.old }
     {
         let access = seat.machine.access();
         let found = touch_seat::<Brand>(
@@ -129,20 +133,15 @@ impl KcTable {
         );
         seat.machine.answer(&shown(&access, found));
         seat.began = false;
-        if let Access::Signal(caller, true) = access {
-            if caller < MOST_CALLERS {
-                seat.wakes |= 1u64 << caller;
-            }
-        }
+        wakes.note(access);
     }
 
-    /// Wakes whom the seat's steps have signalled since this was last done.
+    /// Wakes whom steps have signalled.
     #[inline(always)]
-    pub fn wake(&self, seat: &mut KcSeat)
-        ensures { seat.new ≡ seat.old }
-    {
-        if seat.wakes != 0 {
-            self.wake_each(seat.take_wakes());
+    pub fn wake(&self, wakes: Wakes) {
+        let bits = wakes.bits();
+        if bits != 0 {
+            self.wake_each(bits);
         }
     }
 

@@ -1,9 +1,9 @@
 -- What a seat knew it knows, and what it was told.
-use Rattle.std.proofs.Common.{◌≡◌, ◌≤◌, ◌<◌, All, ℕ, List, [], ◌∷◌, ◌++◌, Some, true, false, refl, sym, ap, ◌∙◌, subst, append_assoc, arith}
+use Rattle.std.proofs.Common.{◌≡◌, ◌≤◌, ◌<◌, ℕ, List, [], ◌∷◌, ◌++◌, Some, true, false, refl, sym, ap, ◌∙◌, subst, append-nil, append_assoc, arith}
+use Rattle.kc_machine_lockfree.proofs.Entered.{all_among}
 use Rattle.kc_machine_progress.specs.kc_machine_steps.declared.task.Event.{Event}
 use Rattle.kc_machine_progress.specs.kc_machine_steps.declared.task.Event.TheVariants.{Begin, Step}
 use Rattle.kc_machine_progress.specs.kc_machine_steps.declared.task.Task.{Task}
-use Rattle.std.proofs.lemmas.List.Elements.{All-cons, All-head, All-nil, All-tail}
 use Rattle.kc_machine_progress.specs.kc_machine_words.declared.words.Mode.{Mode}
 use Rattle.kc_machine_progress.specs.kc_machine_words.declared.words.Mode.TheVariants as mode
 use Rattle.kc_model.specs.declared.footprint.Footprint.{Footprint}
@@ -18,8 +18,9 @@ use Rattle.kc_machine_progress.specs.kc_machine.Works.{Work}
 use Rattle.kc_machine_progress.specs.kc_machine.Works as work
 use Rattle.kc_machine_progress.specs.kc_machine.declared.seat.Seat.{Seat}
 use Rattle.kc_machine_progress.specs.kc_machine_traces.Claims.{HasPut}
-use Rattle.kc_machine_progress.specs.kc_machine_traces.Histories.{Grows, History, IsAmong, IsKnown, Placed, ending_store, here, later, none}
+use Rattle.kc_machine_progress.specs.kc_machine_traces.Histories.{Grows, IsKnown, ending_store}
 use Rattle.kc_machine_progress.specs.kc_machine_traces.Traces.{first_store}
+use Rattle.kc_machine_progress.proofs.kc_machine_history.Insertions.{grows_on as after, grows_same}
 use Rattle.kc_table_moves.proofs.kc_machine_history.Put.{puts_past}
 use Rattle.kc_machine_progress.proofs.kc_machine_traces.Joins.{made_parts, honest_parts}
 use Rattle.kc_machine_progress.proofs.kc_machine_traces.Others.{history_kept}
@@ -45,11 +46,25 @@ goes_on v w more of number past meant =
     record {
       of = of;
       number = number;
+      past = (more, past);
       grows = subst (Grows (knows v)) h (grows_on o v.past more m);
       reads = λ r k. subst (λ x. IsKnown (first_store x) (knows w) r) (sym s) (subst (λ x. IsKnown (first_store o) x r) h (known_on o v.past more m r k));
       versions = λ l. subst (λ x. (ending_store (first_store o) (knows v) l).version ≤ (ending_store (first_store x) (knows w) l).version) (sym s)
           (subst (λ x. (ending_store (first_store o) (knows v) l).version ≤ (ending_store (first_store o) x l).version) h (versions_on o v.past more m l));
     }
+
+pub keeps_same : (v : SeatView) → KeepsKnown v v
+keeps_same v = record { of = refl; number = refl; past = ([], sym (append-nil v.past)); grows = grows_same (knows v); reads = λ r k. k; versions = λ l. omega arith }
+
+pub keeps_then : (u v w : SeatView) → KeepsKnown u v → KeepsKnown v w → KeepsKnown u w
+keeps_then u v w a b = record {
+  of = b.of ∙ a.of;
+  number = b.number ∙ a.number;
+  past = (a.past.0 ++ b.past.0, b.past.1 ∙ ap (λ z. z ++ b.past.0) a.past.1 ∙ append_assoc u.past a.past.0 b.past.0);
+  grows = after (knows u) (knows v) (knows w) a.grows b.grows;
+  reads = λ r k. b.reads r (a.reads r k);
+  versions = λ l. let x = a.versions l in let y = b.versions l in omega (arith, x, y);
+}
 
 pub steps_keep : (v w : SeatView) → Stepped v w → KeepsKnown v w
 steps_keep v w s =
@@ -133,12 +148,6 @@ own_known v w t d idle =
     (subst (λ h. GainsAsTold k t ((run (o v w t d) (ran k t (before v w t d) d.rest)).seats k).told (placed_by k (known (o v w t d) (before v w t d))) (placed_by k h)) (list_is v w t d) g))
 
 -- ---- commits
-
--- what was known before stands among what was known as the task began
-all_among : (P : Placed → Type 0) {a b : History} → IsAmong a b → All P b → All P a
-all_among P none q = All-nil P
-all_among P (here {x = x} {a = a} {b = b} g) q = All-cons P x a (All-head P x b q) (all_among P g (All-tail P x b q))
-all_among P (later {x = x} {b = b} g) q = all_among P g (All-tail P x b q)
 
 pub success_known : (v w : SeatView) (n : ℕ) (f : Footprint) (m : Mode) → DoesTask v (task.Commit f m) w → w.seat.told ≡ Some (told.Succeeded n) → SuccessTaught v.number n f m (knows v) (knows w)
 success_known v w n f m d said =

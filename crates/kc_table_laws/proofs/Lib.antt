@@ -14,6 +14,10 @@ pub mod Bounding
 pub mod Knowing
 pub mod Telling
 pub mod Ending
+pub mod Entering
+pub mod Overtaking
+pub mod Stepping
+pub mod Confirming
 pub use Rattle.kc_machine_progress.proofs.kc_machine as kc_machine
 pub use Rattle.kc_machine_progress.proofs.kc_machine_answers as kc_machine_answers
 pub use Rattle.kc_machine_progress.proofs.kc_machine_history as kc_machine_history

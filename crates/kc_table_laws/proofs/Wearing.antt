@@ -1,15 +1,14 @@
 -- Where no life is left none comes back, and no commit takes a descriptor.
-use Rattle.std.proofs.Common.{arith, ◌≡◌, ◌<◌, ◌≤◌, inl, inr, ◌∙◌, ◌+◌, ◌-◌, ◌++◌, ◌==◌, ◌&&◌, ℕ, Bool, true, false, List, [], ◌∷◌, Option, None, Some, refl, sym, ap, subst, if◌then◌else◌, append_assoc, append-nil}
+use Rattle.std.proofs.Common.{arith, ◌≡◌, ◌<◌, inl, inr, ◌∙◌, ◌+◌, ◌-◌, ◌++◌, ◌==◌, ℕ, Bool, true, false, List, [], ◌∷◌, Some, refl, sym, ap, subst, if◌then◌else◌, append_assoc, append-nil}
 use Rattle.std.specs.Prelude.{nat_lt}
 use borrow.Author.Tests.{eqb-false, eqb-true, ltb-true}
-use Rattle.kc_machine_progress.proofs.kc_machine.Functions.{both, put_cases, put_here}
-use Rattle.kc_machine_progress.specs.kc_machine.Machine.{Opening, State, World, event_of, found_at, happened, pool_size, possible, put_at_index, put_some, run, run_from, seat_of, touched}
+use Rattle.kc_machine_lockfree.proofs.Generations.{run_worn}
+use Rattle.kc_machine_progress.proofs.kc_machine.Functions.{put_here}
+use Rattle.kc_machine_progress.specs.kc_machine.Machine.{Opening, State, World, event_of, found_at, pool_size, run, seat_of}
 use Rattle.kc_machine_progress.specs.kc_machine.Seats.{access_of, seat_after, answer_by, seat_answered, begun, begun_idle, seat_halted, halted, halted_by, is_idle, work_access}
-use Rattle.kc_machine_progress.specs.kc_machine.Words.{control, gripped}
 use Rattle.kc_machine_progress.specs.kc_machine.Works.{Work}
 use Rattle.kc_machine_progress.specs.kc_machine.Works as work
 use Rattle.kc_machine_progress.specs.kc_machine.declared.seat.Seat.{Seat}
-use Rattle.kc_machine_progress.specs.kc_machine.declared.words.TheConstants.{MOST_HOLDS}
 use Rattle.kc_machine_progress.specs.kc_machine_commits.Commits.{after_scan, commit_access, gone_on, loaded, onward_by, stage_access, stage_next}
 use Rattle.kc_machine_progress.specs.kc_machine_commits.Halts.{halted_at, unowned}
 use Rattle.kc_machine_progress.specs.kc_machine_commits.Nexts.{Next}
@@ -28,79 +27,12 @@ use Rattle.kc_machine_progress.proofs.kc_machine_traces.Answers.{seat_cases}
 use Rattle.kc_machine_progress.proofs.kc_machine_traces.Joins.{run-append}
 use Rattle.kc_machine_progress.proofs.kc_machine_traces.Others.{event_else, event_in, run_shape}
 use Rattle.kc_machine_progress.specs.kc_machine_traces.Moments.{BeginsNothing}
-use Rattle.kc_machine_progress.specs.kc_machine_words.declared.access.Access.{Access}
-use Rattle.kc_machine_progress.specs.kc_machine_words.declared.access.Access.TheVariants as access
-use Rattle.kc_machine_progress.specs.kc_machine_words.declared.access.Grip.{Grip}
-use Rattle.kc_machine_progress.specs.kc_machine_words.declared.access.Grip.TheVariants as grip
-use Rattle.kc_machine_progress.specs.kc_machine_words.declared.words.Control.{Control}
 use Rattle.kc_machine_progress.specs.kc_machine_words.declared.words.Mode.{Mode}
 use Rattle.kc_machine_progress.specs.kc_machine_words.declared.words.TheConstants.{LAST_GENERATION}
 use Rattle.kc_model.specs.declared.footprint.Footprint.{Footprint}
 use Rattle.kc_table_moves.specs.Views.{SeatView, opening_at_seat}
 use Rattle.kc_table_laws.specs.Tasks.{DoesTask}
 use Rattle.kc_table_laws.specs.Told.{IsUndecided, IsWornOut}
-
--- ---- generations don't come back
-
-abbrev IsLast : Control → Type 0
-IsLast c = LAST_GENERATION ≤ c.generation
-
-grip_worn : (g : Grip) (c d : Control) → IsLast c → gripped g c ≡ Some d → IsLast d
-grip_worn grip.Load c d l e = absurd (cc)
-grip_worn (grip.Take g) c d l e = go ((c.generation == g) && (c.holds == 0) && nat_lt g LAST_GENERATION) refl e
-  where
-    go : (b : Bool) → ((c.generation == g) && (c.holds == 0) && nat_lt g LAST_GENERATION) ≡ b → (if b then Some (control (g + 1) 1) else None) ≡ Some d → IsLast d
-    go true q e =
-        let same = eqb-true c.generation g (both (c.generation == g) (c.holds == 0) (both ((c.generation == g) && (c.holds == 0)) (nat_lt g LAST_GENERATION) q).0).0 in
-        let z : control (g + 1) 1 ≡ d = cc in
-        let y : d.generation ≡ g + 1 = ap (λ (x : Control). x.generation) (sym z) in
-        omega arith
-    go false q e = absurd (cc)
-grip_worn grip.Add c d l e = go (nat_lt c.holds MOST_HOLDS) e
-  where
-    go : (b : Bool) → (if b then Some (control c.generation (c.holds + 1)) else None) ≡ Some d → IsLast d
-    go true e = let z : control c.generation (c.holds + 1) ≡ d = cc in subst IsLast z l
-    go false e = absurd (cc)
-grip_worn grip.Subtract c d l e = go (nat_lt 0 c.holds) e
-  where
-    go : (b : Bool) → (if b then Some (control c.generation (c.holds - 1)) else None) ≡ Some d → IsLast d
-    go true e = let z : control c.generation (c.holds - 1) ≡ d = cc in subst IsLast z l
-    go false e = absurd (cc)
-
-touched_worn : (w : World) (a : Access) (d : ℕ) → DescriptorIsWorn w d → DescriptorIsWorn (touched w a) d
-touched_worn w access.Nothing d h = h
-touched_worn w (access.Location l t) d h = h
-touched_worn w (access.Control e g) d h = go (gripped g (w.control e)) refl
-  where
-    go : (o : Option Control) → gripped g (w.control e) ≡ o → IsLast (put_some w.control e o d)
-    go None q = h
-    go (Some c) q = put_cases IsLast w.control e c d (λ z. grip_worn g (w.control e) c (subst (λ i. IsLast (w.control i)) z h) q) (λ ne. h)
-touched_worn w (access.Status e t) d h = h
-touched_worn w (access.Owner e t) d h = h
-touched_worn w (access.First e k t) d h = h
-touched_worn w (access.Second e k t) d h = h
-touched_worn w (access.Awaiters l b) d h = h
-touched_worn w (access.Signal c s) d h = h
-
-event_worn : (m : State) (e : Event) (d : ℕ) → DescriptorIsWorn m.world d → DescriptorIsWorn (event_of m e).world d
-event_worn m e d h = go (nat_lt (seat_of e) m.callers)
-  where
-    step : (k : ℕ) (b : Bool) → DescriptorIsWorn (if b then record m { world = touched m.world (access_of (m.seats k)); seats = put_at_index m.seats k (seat_answered (m.seats k) (found_at m.world (access_of (m.seats k)))) } else m).world d
-    step k true = touched_worn m.world (access_of (m.seats k)) d h
-    step k false = h
-
-    happens : (e : Event) → DescriptorIsWorn (happened m e).world d
-    happens (Begin k t) = h
-    happens (Step k) = step k (possible m (access_of (m.seats k)))
-    happens (Halt k) = h
-
-    go : (b : Bool) → DescriptorIsWorn (if b then happened m e else m).world d
-    go true = happens e
-    go false = h
-
-run_worn : (m : State) (es : List Event) (d : ℕ) → DescriptorIsWorn m.world d → DescriptorIsWorn (run_from m es).world d
-run_worn m [] d h = h
-run_worn m (e ∷ es) d h = run_worn (event_of m e) es d (event_worn m e d h)
 
 pub worn_on : (o : Opening) (past more : List Event) → IsWornOut o past → IsWornOut o (past ++ more)
 worn_on o past more f d l = subst (λ (m : State). DescriptorIsWorn m.world d) (sym (run-append o past more)) (run_worn (run o past) more d (f d l))

@@ -10,7 +10,7 @@ use Rattle.kc_machine_progress.specs.kc_machine_traces.Parts.{NoneOf}
 use Rattle.kc_model.specs.declared.footprint.Loc.{Loc}
 use Rattle.kc_model.specs.declared.footprint.Seen.{Seen}
 use Rattle.kc_table_moves.specs.Views.{SeatView, knows, opening_at_seat}
-use Rattle.kc_table_moves.specs.kc_table_views.Known.{OwnsNone}
+use Rattle.kc_table_moves.specs.kc_table_views.Known.{IsPrefix, OwnsNone}
 use Rattle.kc_table_moves.specs.kc_table_views.Pending.{AllWait}
 use Rattle.kc_table_moves.specs.kc_table_views.Tasks.{SeatRuns, ran}
 
@@ -29,10 +29,11 @@ pub record DoesTask (v : SeatView) (t : Task) (w : SeatView) : Type 0 where
   pub runs : SeatRuns (opening_at_seat v) v.number t ((v.past ++ others) ++ halts) rest
   pub seat : w.seat ≡ (run (opening_at_seat v) w.past).seats v.number
 
--- the seat knows all that it knew: its list grows, known reads stay known, and no version falls
+-- the seat's past goes on, and it knows all that it knew: its list grows, known reads stay known, and no version falls
 pub record KeepsKnown (v w : SeatView) : Type 0 where
   pub of : w.of ≡ v.of
   pub number : w.number ≡ v.number
+  pub past : IsPrefix v.past w.past
   pub grows : Grows (knows v) (knows w)
   pub reads : (r : Seen) → IsKnown (first_store (opening_at_seat v)) (knows v) r → IsKnown (first_store (opening_at_seat w)) (knows w) r
   pub versions : (l : ℕ) → (ending_store (first_store (opening_at_seat v)) (knows v) l).version ≤ (ending_store (first_store (opening_at_seat w)) (knows w) l).version

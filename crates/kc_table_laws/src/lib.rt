@@ -1,10 +1,16 @@
 //! Laws of the seats of a table: a task as its steps show it, and what the seat is told and knows by it.
+//! What a seat has read, and its looks confirm, stood at one moment, for good.
 //! Laws of a table with one seat: its looks tell what stands, and its commits are made, within few steps.
+//! Laws of many seats: whoever stopped, one is told and entries come, and an attempt that failed was overtaken by one.
 #![tactic(auto)]
 
+mod confirmed;
+mod progress;
 mod seats;
 mod sole;
 
+pub use confirmed::{confirmed_stays_so, looks_confirm, views_stand_for_good, views_stood};
+pub use progress::{entries_come, failed_attempts_were_overtaken, some_seat_is_told};
 pub use seats::{
     blocked_seats_are_covered, crosses_teach_their_seat, failures_teach_their_seat,
     few_steps_are_left, halted_tasks_end, halts_are_marked, hangs_teach_their_seat,

@@ -18,6 +18,7 @@ use Rattle.kc_table_moves.proofs.Unmoved.{glances}
 use Rattle.kc_table_moves.specs.Origins.{Origin, opening_of}
 use Rattle.kc_table_moves.specs.Rule.{loads_of, number_of, past_of, part, view, glanced, Glanced, Kept, ReadySeat, Steps, Moved, MovedWithin}
 use Rattle.kc_table_moves.specs.Atoms.{Here, On, Aims, Peeked, Went, leaves}
+use Rattle.kc_table_moves.specs.Signals.{signals}
 use Rattle.kc_table_moves.specs.Views.{SeatView, Stepped, seat_seen_as, further}
 use Rattle.kc_table_moves.specs.declared.atoms.Run.{Run}
 use Rattle.kc_table_moves.specs.declared.view.TheConstants.{MOST_LOADS}
@@ -37,7 +38,7 @@ aim_within q me began s word n ch r from busy aims size =
 
 -- the same aim, by what the seat's step makes of its word
 pub aims_own : (q : Origin) (s : Seat) (word : ℕ) (ch : Change) → Aims q s word ch → Aims q s word (change_of (access_of s))
-aims_own q s word ch aims = record { place = aims.place; makes = refl; ranged = aims.ranged }
+aims_own q s word ch aims = record { place = aims.place; makes = refl; ranged = aims.ranged; mute = aims.mute }
 
 -- a load that is the step, or one that is none
 peeks_at : (q : Origin) (st : table.State Unit View) (id word n : ℕ) (me : Me Unit View) (began : Bool) (s : Seat) (takes : Bool) → Kept q (stepped st word n id me.1 (glanced 1 me).0 keeps)
@@ -152,15 +153,15 @@ pub stepped_view : (v : SeatView) (began : Bool) (s t : Seat) (me after : Me Uni
     → t ≡ (run (opening_of me.0.origin) (past_of after.0.parts)).seats (number_of me.0.parts) → Stepped v (seat_seen_as y after false t)
 stepped_view v began s t me after z y n e same m is = stepped_late v began s t me after z y n e same (at_once MOST_LOADS s began me after n m) is
 
-pub went_late : (start : SeatView) (r : Run) (z y : TableId) (me later : Me Unit View) (began : Bool) (s : Seat) (n : ℕ) → On start r z me began s → is_idle s.work ≡ false → y ≡ z → MovedWithin MOST_LOADS s began me n later → Went start r y later s n
-went_late start r z y me later began s n on busy same m = record {
+pub went_late : (start : SeatView) (r : Run) (z y : TableId) (me later : Me Unit View) (began : Bool) (s : Seat) (n : ℕ) → On start r z me began s → signals (access_of s) ≡ false → is_idle s.work ≡ false → y ≡ z → MovedWithin MOST_LOADS s began me n later → Went start r y later s n
+went_late start r z y me later began s n on mute busy same m = record {
   world = world';
   fits = m.2.2.fits;
   found = m.2.2.found;
   on = record {
     here = record { table = same ∙ on.here.table; origin = ap (λ (x : Me Unit View). x.0.origin) m.2.1 ∙ on.here.origin; from = on.here.from; few = on.here.few; size = on.here.size };
     ready = ready_after s t began (glanced m.0 me) later n (ready_glanced m.0 me began s on.ready) m.2 stands;
-    steps = further (seat_seen_as z me began s) (seat_seen_as y later false t) on.steps busy (stepped_late (seat_seen_as z me began s) began s t me later z y n refl same m stands);
+    steps = record { steps = further (seat_seen_as z me began s) (seat_seen_as y later false t) on.steps.steps busy (stepped_late (seat_seen_as z me began s) began s t me later z y n refl same m stands); quiet = (on.steps.quiet, mute) };
   };
 }
   where
@@ -173,5 +174,5 @@ went_late start r z y me later began s n on busy same m = record {
     stands : t ≡ (run (opening_of me.0.origin) (past_of later.0.parts)).seats (number_of me.0.parts)
     stands = sym m.2.2.stands ∙ ap (λ (x : Me Unit View). (run (opening_of me.0.origin) (past_of x.0.parts)).seats (number_of me.0.parts)) (sym m.2.1)
 
-pub went : (start : SeatView) (r : Run) (z y : TableId) (me later : Me Unit View) (began : Bool) (s : Seat) (n : ℕ) → On start r z me began s → is_idle s.work ≡ false → y ≡ z → Moved s began me n later → Went start r y later s n
-went start r z y me later began s n on busy same m = went_late start r z y me later began s n on busy same (at_once MOST_LOADS s began me later n m)
+pub went : (start : SeatView) (r : Run) (z y : TableId) (me later : Me Unit View) (began : Bool) (s : Seat) (n : ℕ) → On start r z me began s → signals (access_of s) ≡ false → is_idle s.work ≡ false → y ≡ z → Moved s began me n later → Went start r y later s n
+went start r z y me later began s n on mute busy same m = went_late start r z y me later began s n on mute busy same (at_once MOST_LOADS s began me later n m)

@@ -21,7 +21,8 @@ use Rattle.kc_table_layout.specs.Changes.{change_of, changed}
 use Rattle.kc_table_layout.specs.declared.change.Change.{Change}
 use Rattle.kc_table_moves.specs.Origins.{Origin}
 use Rattle.kc_table_moves.specs.Rule.{Moved, ReadySeat, glanced}
-use Rattle.kc_table_moves.specs.Views.{SeatView, StepsTo, seat_seen_as}
+use Rattle.kc_table_moves.specs.Signals.{signals}
+use Rattle.kc_table_moves.specs.Views.{SeatView, StepsQuietly, seat_seen_as}
 use Rattle.kc_table_moves.specs.declared.atoms.Held.{Held}
 use Rattle.kc_table_moves.specs.declared.atoms.Run.{Run}
 use Rattle.kc_table_moves.specs.declared.atoms.Stop.{Stop}
@@ -41,17 +42,18 @@ pub record Here (q : Origin) (z : TableId) (base : ℕ) (token : TableId) (me : 
 abbrev pub seat_in : Run → Point → Seat
 seat_in r p = seat_at_point r.seat.now r.mode r.lines.now p
 
--- from `start` the seat has come by steps to where it stands as s; `began`: none of them has shown its task yet
+-- from `start` the seat has come by steps that signal nobody to where it stands as s; `began`: none of them has shown its task yet
 pub record On (start : SeatView) (r : Run) (token : TableId) (me : Me Unit View) (began : Bool) (s : Seat) : Type 0 where
   pub here : Here r.words.now.key r.words.now.table_id r.base token me
   pub ready : ReadySeat me began s
-  pub steps : StepsTo start (seat_seen_as token me began s)
+  pub steps : StepsQuietly start (seat_seen_as token me began s)
 
--- the access of s is on this word, and makes this of it
+-- the access of s is on this word, and makes this of it; it signals nobody
 pub record Aims (q : Origin) (s : Seat) (word : ℕ) (ch : Change) : Type 0 where
   pub place : word ≡ place (base_of q.locations) (cell_of (access_of s))
   pub makes : change_of (access_of s) ≡ ch
   pub ranged : ValuesFit (access_of s)
+  pub mute : signals (access_of s) ≡ false
 
 -- the seat stood as s, and has made its step, which found n
 pub record Went (start : SeatView) (r : Run) (token : TableId) (later : Me Unit View) (s : Seat) (n : ℕ) : Type 0 where

@@ -1,5 +1,6 @@
 pub mod Origins
 pub mod Rule
+pub mod Signals
 pub mod Views
 pub mod Atoms
 pub mod Words

@@ -3,7 +3,7 @@ use Rattle.std.specs.Prelude.{◌≡◌, Bool, true, false, ℕ, zero, suc, ◌+
 use Rattle.std.specs.Option.{is_some}
 use Rattle.atomic_table.specs.Seated.{TableId}
 use Rattle.kc_machine.specs.Machine.{Opening, run, pool_size}
-use Rattle.kc_machine.specs.Seats.{begun, fresh, is_idle, own_of}
+use Rattle.kc_machine.specs.Seats.{access_of, begun, fresh, is_idle, own_of}
 use Rattle.kc_machine.specs.declared.seat.Seat.{Seat}
 use Rattle.kc_table_layout.specs.kc_machine_traces.Histories.{History, Grows, ending_store}
 use Rattle.kc_table_layout.specs.kc_machine_traces.Traces.{first_store, BeginsHonestly}
@@ -17,6 +17,7 @@ use Rattle.kc_model.specs.declared.word.Word.{Word}
 use Rattle.kc_table_moves.specs.Origins.{Origin, opening_of, version_in, value_in, unpacked_word}
 use Rattle.kc_table_views.specs.Known.{known, IsMeant, IsPrefix, IsWhole, GoesOn, KnowsAPart, OwnsNone}
 use Rattle.atomic_table.specs.Table.{Me}
+use Rattle.kc_table_moves.specs.Signals.{signals}
 use Rattle.kc_table_moves.specs.Rule.{Steps, loads_of, number_of, past_of}
 use Rattle.kc_table_moves.specs.declared.view.Part.{Part}
 use Rattle.kc_table_moves.specs.declared.view.TheConstants.{MOST_LOADS}
@@ -78,12 +79,26 @@ abbrev pub count : (v w : SeatView) → StepsTo v w → ℕ
 count v _ here = 0
 count v _ (further u _ d busy s) = suc (count v u d)
 
+-- none of them signals anybody
+abbrev pub SignalsNobody : (v w : SeatView) → StepsTo v w → Type 0
+SignalsNobody v _ here = Unit {0}
+SignalsNobody v _ (further u _ d busy s) = SignalsNobody v u d × (signals (access_of u.seat) ≡ false)
+
+pub record StepsQuietly (v w : SeatView) : Type 0 where
+  pub steps : StepsTo v w
+  pub quiet : SignalsNobody v w steps
+
 abbrev pub begun_at : SeatView → Task → SeatView
 begun_at v t = record v { seat = begun v.seat t; began = true }
 
 -- the seat has begun this task, and since then it has made a step or more, and nothing else
 pub record Ran (v : SeatView) (t : Task) (w : SeatView) : Type 0 where
   pub steps : StepsTo (begun_at v t) w
+  pub shown : w.began ≡ false
+
+-- likewise, by steps that signal nobody
+pub record RanQuietly (v : SeatView) (t : Task) (w : SeatView) : Type 0 where
+  pub steps : StepsQuietly (begun_at v t) w
   pub shown : w.began ≡ false
 
 -- the seat knows more of what others did, and else is as it was; while it owns no descriptor, none of that is an entry of its own

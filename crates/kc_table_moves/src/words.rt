@@ -1,5 +1,5 @@
 //! The words of a table. Nothing else reaches them: each atomic operation on them is a call of this file, and says whether it
-//! is a step of the seat or a load that is none. So a seat's count of such loads leaves none out but those of its notes.
+//! is a step of the seat or a load that is none. A note makes neither. So a seat's count of such loads leaves none out.
 
 ghost use Rattle.std.specs.Prelude.{◌≡◌, ◌≤◌, ◌<◌, ◌+◌, ◌-◌, ◌%◌, ◌^◌, ◌==◌, [], length, IfOk, bit_and, bit_or};
 ghost use prog.Atomic.{either};
@@ -111,18 +111,20 @@ impl Words {
         self.table.shared.load::<Peeks<B>>(token, word)
     }
 
-    /// A load of the seat's own signal.
+    /// A load of the seat's own signal. The token is of one seat, so a note makes none.
     #[inline(always)]
     pub fn hear(&self, token: &mut Token, word: usize) -> u64
-        requires { Permits self.now token.old.table_id token.old.id token.old.me word (λ n. n) (λ n after. Heard word token.old.me n after) }
+        requires own { length token.old.me.0.parts ≡ 1 }
+        requires permits { Permits self.now token.old.table_id token.old.id token.old.me word (λ n. n) (λ n after. Heard word token.old.me n after) }
         ensures { (token.new.table_id ≡ token.old.table_id) × (token.new.id ≡ token.old.id) × Heard word token.old.me result token.new.me }
     {
         self.table.shared.load::<Hears>(token, word)
     }
 
-    /// A load with which a seat takes in what it heard.
+    /// A load with which a seat takes in what it heard. The token is of one seat, so a note makes none.
     pub fn merge(&self, token: &mut Token)
-        requires { Permits self.now token.old.table_id token.old.id token.old.me 0 (λ n. n) (λ n after. Merged token.old.me after) }
+        requires own { length token.old.me.0.parts ≡ 1 }
+        requires permits { Permits self.now token.old.table_id token.old.id token.old.me 0 (λ n. n) (λ n after. Merged token.old.me after) }
         ensures { (token.new.table_id ≡ token.old.table_id) × (token.new.id ≡ token.old.id) × Merged token.old.me token.new.me }
     {
         self.table.shared.load::<Merges>(token, 0);

@@ -4,7 +4,7 @@ ghost use Rattle.std.specs.Prelude.{◌≡◌, ◌<◌, All, IfSome};
 ghost use Rattle.kc_table_laws.specs.Tasks.{IsSameSeat};
 
 use crate::asserts::equal;
-use crate::tests::{look_both, run, saw_both};
+use crate::tests::{look_both, run, saw_both, step};
 use kc_machine_steps::Told;
 use kc_machine_words::Mode;
 use kc_model::{Loc, Seen};
@@ -121,7 +121,7 @@ fn turn(table: &KcTable, seat: &mut KcSeat, tally: &mut Tally)
     ensures same { IsSameSeat seat.old seat.new }
 {
     if seat.busy() {
-        table.step(seat);
+        step(table, seat);
     } else if tally.left > 0 {
         begin_next(table, seat, tally);
     } else {

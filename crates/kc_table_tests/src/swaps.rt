@@ -6,11 +6,12 @@ ghost use Rattle.kc_table_laws.specs.Tasks.{IsSameSeat, KnowsRead};
 use crate::asserts::{equal, holds};
 use crate::tests::{
     FAILED, SEVEN_AND_EIGHT, SUCCEEDED, crossed, end, go, hang, opened, saw, saw_both, see, steps,
+    steps_of,
 };
 use kc_machine_steps::Told;
 use kc_machine_words::Mode;
 use kc_model::{LAST_VERSION, Loc, Seen};
-use kc_table::{KcSeat, KcTable};
+use kc_table::{KcSeat, KcTable, Wakes};
 use std::test::Fail;
 
 // Swaps a read that the seat knows; false where a task runs, or the version is the last.
@@ -76,6 +77,9 @@ fn a_swap_in_one_call_wakes_who_hangs_on_it(rt: HostRuntime) {
     let seen = saw(&rt, &table, &mut a, Loc(0));
     holds(&rt, swap(&table, &mut a, seen, 1));
     // It owes a signal.
-    equal(&rt, end(&table, &mut a, &[]), (1, SUCCEEDED));
+    let mut wakes = Wakes::none();
+    equal(&rt, steps_of(&table, &mut a, &[], 100, &mut wakes), 1);
+    equal(&rt, a.told(), SUCCEEDED);
+    equal(&rt, wakes.bits(), 0b10);
     holds(&rt, table.signalled(&mut b));
 }

@@ -3,14 +3,15 @@ ghost use Rattle.kc_model.specs.Footprint.{Reads};
 ghost use Rattle.kc_model.specs.declared.footprint.Seen.{Seen};
 ghost use Rattle.kc_model.specs.declared.footprint.TheConstants.{MOST};
 ghost use Rattle.kc_table_laws.specs.Tasks.{IsSameSeat, KnowsRead};
-ghost use Rattle.kc_table_moves.specs.Views.{AreAll};
+ghost use Rattle.kc_table_moves.specs.Views.{AreAll, Stepped};
+ghost use Rattle.kc_machine.specs.Seats.{is_idle};
 
 use crate::asserts::{equal, holds};
 use arrayvec::ArrayVec;
 use kc_machine_steps::{Task, Told, fill_lines};
 use kc_machine_words::Mode;
 use kc_model::{Footprint, Loc, OpenError, Put, Seen};
-use kc_table::{KcSeat, KcTable};
+use kc_table::{KcSeat, KcTable, Wakes};
 use std::process::Abort;
 use std::test::Fail;
 use std::thread;
@@ -51,8 +52,38 @@ pub(crate) fn opened(rt: &(impl Abort + AllocGlobal), values: &[u32]) -> (KcTabl
     open_two(rt, values).expect(rt, "not opened")
 }
 
+// A step, and whom it signals.
+pub(crate) fn step(table: &KcTable, seat: &mut KcSeat) -> u64
+    requires table { seat.old.of ≡ table.now }
+    requires busy { is_idle seat.old.seat.work ≡ false }
+    ensures stepped { Stepped seat.old seat.new }
+{
+    let mut wakes = Wakes::none();
+    table.step(seat, &mut wakes);
+    wakes.bits()
+}
+
 // Steps until the task has ended, at most so many; how many were made. What it read it still knows.
 pub(crate) fn steps(table: &KcTable, seat: &mut KcSeat, reads: &[Seen], most: u32) -> u32
+    requires table { seat.old.of ≡ table.now }
+    requires reads { All (KnowsRead seat.old) reads.now }
+    ensures same { IsSameSeat seat.old seat.new }
+    ensures reads { All (KnowsRead seat.new) reads.now }
+{
+    let mut wakes = Wakes::none();
+    let made = steps_of(table, seat, reads, most, &mut wakes);
+    wakes.bits();
+    made
+}
+
+// The same; it notes whom they signal.
+pub(crate) fn steps_of(
+    table: &KcTable,
+    seat: &mut KcSeat,
+    reads: &[Seen],
+    most: u32,
+    wakes: &mut Wakes,
+) -> u32
     requires table { seat.old.of ≡ table.now }
     requires reads { All (KnowsRead seat.old) reads.now }
     ensures same { IsSameSeat seat.old seat.new }
@@ -62,7 +93,7 @@ pub(crate) fn steps(table: &KcTable, seat: &mut KcSeat, reads: &[Seen], most: u3
         if !seat.busy() {
             return made;
         }
-        table.step(seat);
+        table.step(seat, wakes);
     }
     most
 }
@@ -80,12 +111,12 @@ pub(crate) fn look(table: &KcTable, seat: &mut KcSeat, reads: &[Seen], loc: Loc)
         return None;
     }
     seat.begin(&Task::Look(loc));
-    table.step(seat);
+    step(table, seat);
     for _ in 0..1_000 {
         if !seat.busy() {
             break;
         }
-        table.step(seat);
+        step(table, seat);
     }
     match seat.told() {
         Some(Told::Seen(seen)) => Some(seen),
@@ -261,7 +292,7 @@ fn take(table: &KcTable, seat: &mut KcSeat) -> Option<(u32, u64)>
         if seat.own().is_some() || !seat.busy() {
             break;
         }
-        table.step(seat);
+        step(table, seat);
     }
     seat.own()
 }
@@ -470,11 +501,12 @@ fn a_put_wakes_who_hangs_on_it(rt: HostRuntime) {
     equal(&rt, end(&table, &mut b, &[]), (2, Some(Told::Hung)));
     holds(&rt, !table.signalled(&mut b));
     let seen = saw_one(&rt, &table, &mut a, Loc(0));
-    let (_, told) = commit(&rt, &table, &mut a, Mode::Light, &seen, &[Some(1)]);
-    equal(&rt, told, SUCCEEDED);
+    holds(&rt, begin(&mut a, Mode::Light, &seen, &[Some(1)]));
+    let mut wakes = Wakes::none();
+    steps_of(&table, &mut a, &seen, 100, &mut wakes);
+    equal(&rt, a.told(), SUCCEEDED);
     holds(&rt, table.signalled(&mut b));
-    equal(&rt, a.take_wakes(), 0b10);
-    table.wake(&mut a);
+    table.wake(wakes);
     table.park(&rt, &mut b);
     holds(&rt, leave(&mut b, zero));
     equal(&rt, end(&table, &mut b, &[]), (2, Some(Told::Free)));

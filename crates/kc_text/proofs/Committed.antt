@@ -41,7 +41,7 @@ module _ (t : Texts) (a : TextAct) (c d : CallerView) where
 
   pub fails : (w : Wear) → Came (outcome.Worn w) → Remembers c d → Notes (outcome.Worn w) → FailsBy t a w c d
   fails (wear.Location loc f) h k n = (unlimited _ f _ _ h.0.0, h.0.1, h.1, k, n)
-  fails wear.Pool h k n = (h, k, n)
+  fails wear.Pool h k n = (h.1, k, n)
 
   pub later_not : (f : Footprint) → Came (outcome.Later f) → ⊥
   later_not f h = waits_not t a f (unlimited _ f _ _ h.0.0)

@@ -12,8 +12,8 @@ returns-then-is_done g c =
     record {
       verdict = v;
       number = sym is;
-      tells = rw c.take_wakes.ensures c.try_in_place-fate.ensures.told;
-      remembers = rw c.take_wakes.ensures c.try_in_place-fate.ensures.remembers;
+      tells = c.try_in_place-fate.ensures.told;
+      remembers = c.try_in_place-fate.ensures.remembers;
       within = c.try_in_place-fate.ensures.within;
     }
 
@@ -21,7 +21,7 @@ pub returns : goal.returns
 returns g c = record {
   verdict = verdict_as c.try_in_place-fate.result (tried_of c.try_in_place-fate.new.trial.went c.try_in_place-fate.new.trial.reply);
   number = c.number_of.ensures _;
-  tells = rw c.take_wakes.ensures c.try_in_place-fate.ensures.told;
-  remembers = rw c.take_wakes.ensures c.try_in_place-fate.ensures.remembers;
+  tells = c.try_in_place-fate.ensures.told;
+  remembers = c.try_in_place-fate.ensures.remembers;
   within = c.try_in_place-fate.ensures.within;
 }

@@ -1,9 +1,20 @@
-use Rattle.std.proofs.Common.{◌≡◌, ◌∙◌, ap, sym, subst}
-use Rattle.kc_hang.proofs.Steps.{step_begins, step_comes, step_further}
-use Rattle.kc_hang.specs.Hanging.{ShowsHang, state_at, stepping}
+use Rattle.std.proofs.Common.{◌≡◌, ◌∙◌, ap, false, sym, subst}
+use Rattle.kc_hang.proofs.Mute.{hanging_is_mute, keeps_bits}
+use Rattle.kc_hang.proofs.Steps.{runs_stepping, step_begins, step_comes, step_further}
+use Rattle.kc_hang.specs.Hanging.{ShowsHang, state_at, stepping, task_of}
 use Rattle.kc_hang.specs.HangView.{HangView}
-use Rattle.kc_table.specs.kc_table_moves.Views.{Stepped}
+use Rattle.kc_table.specs.kc_machine.Seats.{access_of}
+use Rattle.kc_table.specs.kc_table_moves.Signals.{signals}
+use Rattle.kc_table.specs.kc_table_moves.Views.{SeatView, Stepped}
 use Rattle.kc_hang.proofs.hang.step.Goals as goal
+
+pub let_go-requires : goal.let_go-requires
+let_go-requires c =
+    let h = c.args.hang.now in
+    let v = c.args.seat.now in
+    let a = access_of c.start.new.seat.seat in
+    let mute : signals a ≡ false = subst (λ (z : SeatView). signals (access_of z.seat) ≡ false) (sym c.start.ensures.seat) (hanging_is_mute (task_of h) (stepping h v).seat (runs_stepping h v c.requires.under_way c.requires.may)) in
+    c.step.ensures.wakes ∙ keeps_bits a c.none-wakes.result mute ∙ c.none-wakes.ensures
 
 pub returns-clause-first : goal.returns-clause-first
 returns-clause-first c = λ first.

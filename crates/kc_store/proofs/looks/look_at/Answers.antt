@@ -30,6 +30,11 @@ end_task-requires-clause-calm c = (free (task.Look c.args.loc) c.args.seat.now c
 pub end_task-requires-clause-halts : goal.end_task-requires-clause-halts
 end_task-requires-clause-halts c = may_be_halted (task.Look c.args.loc) c.args.seat.now c.look.new.seat refl c.requires.idle c.requires.within c.look.ensures.ran c.in_default.ensures.none
 
+pub let_go-requires : goal.let_go-requires
+let_go-requires c =
+    let r = runs (task.Look c.args.loc) c.args.seat.now c.look.new.seat refl c.requires.idle c.requires.within c.look.ensures.ran in
+    c.end_task.ensures.mute r.stands.in_task ∙ c.none-wakes.ensures
+
 pub seen_by-requires : goal.seen_by-requires
 seen_by-requires c =
     let t = task.Look c.args.loc in

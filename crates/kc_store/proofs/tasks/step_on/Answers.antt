@@ -2,6 +2,7 @@ use Rattle.std.proofs.Common.{◌≡◌, ◌∙◌, false, arith}
 use Rattle.kc_hang.specs.kc_machine.Seats.{is_idle}
 use Rattle.kc_store.proofs.Counting.{step_counts}
 use Rattle.kc_store.proofs.Doing.{runs_further}
+use Rattle.kc_store.proofs.Mute.{looks_mutely}
 use Rattle.kc_store.proofs.Ending.{busy_is}
 use Rattle.kc_store.proofs.Standing.{kind_kept}
 use Rattle.kc_hang.proofs.kc_table_laws.Stopping.{free_on}
@@ -21,4 +22,5 @@ steps-preserved c =
       calm = free.1;
       told = λ _. free.0;
       made = omega (arith, n, m);
+      mute = λ e. looks_mutely c.steps.seat c.step.new.seat c.steps.wakes c.step.new.wakes c.step.ensures.stepped busy c.step.ensures.wakes c.args.wakes.now (c.steps.invariant.mute e);
     }

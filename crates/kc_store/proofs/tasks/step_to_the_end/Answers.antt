@@ -2,6 +2,7 @@ use Rattle.std.proofs.Common.{◌≡◌, ◌∙◌, false, arith}
 use Rattle.kc_hang.specs.kc_machine.Seats.{is_idle}
 use Rattle.kc_store.proofs.Counting.{step_counts}
 use Rattle.kc_store.proofs.Doing.{may_run_further}
+use Rattle.kc_store.proofs.Mute.{looks_mutely}
 use Rattle.kc_store.proofs.Ending.{busy_is, falls, still_halted}
 use Rattle.kc_store.proofs.tasks.step_to_the_end.Goals as goal
 
@@ -21,4 +22,5 @@ steps-preserved c =
       halted = still_halted c.steps.seat c.step.new.seat (c.steps.invariant.halted busy) c.step.ensures.stepped;
       runs = λ v t r. may_run_further v c.steps.seat c.step.new.seat t (c.steps.invariant.runs v t r) busy c.step.ensures.stepped;
       made = omega (arith, n, m);
+      mute = λ e. looks_mutely c.steps.seat c.step.new.seat c.steps.wakes c.step.new.wakes c.step.ensures.stepped busy c.step.ensures.wakes c.args.wakes.now (c.steps.invariant.mute e);
     }

@@ -12,4 +12,4 @@ returns g c =
     let s = seat_in c.args.run.now c.args.at in
     let me = c.args.token.now.me in
     let later = c.clear_at.new.token.me in
-    went_late g.C.Chain.start c.args.run.now c.args.token.now.table_id c.clear_at.new.token.table_id me later false s c.clear_at.result c.requires.on refl c.clear_at.ensures.table (fewer_loads 1 MOST_LOADS s false me later c.clear_at.result (omega arith) c.clear_at.ensures.moved)
+    went_late g.C.Chain.start c.args.run.now c.args.token.now.table_id c.clear_at.new.token.table_id me later false s c.clear_at.result c.requires.on c.requires.aim.mute refl c.clear_at.ensures.table (fewer_loads 1 MOST_LOADS s false me later c.clear_at.result (omega arith) c.clear_at.ensures.moved)

@@ -26,5 +26,5 @@ returns g c =
     let mid = c.glance.new.token.me in
     let later = c.exchange_at.new.token.me in
     let k = c.exchange_at.result in
-    went_late g.C.Chain.start c.args.run.now c.args.token.now.table_id c.exchange_at.new.token.table_id me later false s k c.requires.on refl (c.exchange_at.ensures.table ∙ c.glance.ensures.table)
+    went_late g.C.Chain.start c.args.run.now c.args.token.now.table_id c.exchange_at.new.token.table_id me later false s k c.requires.on c.requires.aim.mute refl (c.exchange_at.ensures.table ∙ c.glance.ensures.table)
     (moved_behind MOST_LOADS 0 MOST_LOADS s false me mid later k (omega arith) c.glance.ensures.glanced (at_once 0 s false mid later k c.exchange_at.ensures.moved))

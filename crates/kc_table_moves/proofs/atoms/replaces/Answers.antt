@@ -18,7 +18,7 @@ returns-then-number-old g c =
     let n = c.peek_at-number.result in
     let me = c.args.token.now.me in
     let later = c.peek_at-number.new.token.me in
-    went g.C.Chain.start c.args.run.now c.args.token.now.table_id c.peek_at-number.new.token.table_id me later false s n c.requires.on refl c.peek_at-number.ensures.table
+    went g.C.Chain.start c.args.run.now c.args.token.now.table_id c.peek_at-number.new.token.table_id me later false s n c.requires.on c.requires.aim.mute refl c.peek_at-number.ensures.table
     (peeked_step (leaves s n) s false me later n ((exchange_leaves s n c.args.old c.args.new c.requires.aim.makes).0 c.if-number-old.true) c.peek_at-number.ensures.peeked)
 
 pub exchange_at-requires-clause-here : goal.exchange_at-requires-clause-here
@@ -45,5 +45,5 @@ returns g c =
     let later = c.exchange_at.new.token.me in
     let k = c.exchange_at.result in
     let one = one_glance (leaves s n) s false me mid n ((exchange_leaves s n c.args.old c.args.new c.requires.aim.makes).1 c.requires.apart c.if-number-old.false) c.peek_at-number.ensures.peeked in
-    went_late g.C.Chain.start c.args.run.now c.args.token.now.table_id c.exchange_at.new.token.table_id me later false s k c.requires.on refl (c.exchange_at.ensures.table ∙ c.peek_at-number.ensures.table)
+    went_late g.C.Chain.start c.args.run.now c.args.token.now.table_id c.exchange_at.new.token.table_id me later false s k c.requires.on c.requires.aim.mute refl (c.exchange_at.ensures.table ∙ c.peek_at-number.ensures.table)
     (moved_behind 1 0 MOST_LOADS s false me mid later k (omega arith) one (at_once 0 s false mid later k c.exchange_at.ensures.moved))

@@ -38,7 +38,7 @@ returns g c =
     let new = c.commit_by.new.worn in
     let is = (caller_of c.caller.inside.worn c.deref_mut.result.now c.caller.inside.seat.value c.args.caller.now c.deref_mut.ensures.value c.caller.view_is) in
     record {
-      told = subst (λ x. IsTold m a x f (caller_view new w)) is (told old new m a v f w e.settles);
+      told = subst (λ x. IsTold m a x f (caller_view new w)) is (told old new m a v f w e.notes e.settles);
       tries = subst (λ (x : CallerView). AllTries m f x.seat w) is e.tries;
       settles = subst (λ (x : CallerView). Settles m a x.seat f w) is e.settles;
       keeps = subst (λ (x : CallerView). KeepsKnown x.seat w) is e.keeps;

@@ -1,4 +1,4 @@
-use Rattle.std.proofs.Common.{map, subst, sym}
+use Rattle.std.proofs.Common.{map, refl, subst, sym}
 use Rattle.std.specs.Prelude.{All}
 use Rattle.std.proofs.lemmas.List.Elements.{All-map, All-weaker}
 use Rattle.kc_store.proofs.Back.{all_back, all_shown, history_back, past_back, same_seats}
@@ -28,4 +28,5 @@ returns g c =
     record {
       history = history_back c.args.self y (map caller hs) c.finish.result c.self.view_is (all_shown caller seat hs shown) (subst (λ seats. IsPast y seats c.finish.result) same c.finish.ensures);
       past = past_back c.args.self y (map seat hs) c.finish.result c.self.view_is c.finish.ensures;
+      shown = refl;
     }

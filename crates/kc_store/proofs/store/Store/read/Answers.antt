@@ -8,7 +8,7 @@ use Rattle.kc_store.proofs.Resting.{of_table}
 use Rattle.kc_store.proofs.Settling.{counted, from_start}
 use Rattle.kc_store.specs.Answers.{IsBusy}
 use Rattle.kc_store.specs.Knows.{OnlyLearns}
-use Rattle.kc_store.specs.Reads.{Stood}
+use Rattle.kc_store.specs.Reads.{LooksOnce, Stood}
 use Rattle.kc_store.specs.Views.{CallerView, StoreView, caller_view}
 use Rattle.kc_store.specs.declared.budget.Budget.{Budget}
 use Rattle.kc_store.proofs.store.Store.read.Goals as goal
@@ -38,6 +38,7 @@ returns-in-Ok c =
       reads = subst (λ (y : CallerView). Stood l y r (caller_view worn w)) is (stood worn v w l r (sees v b l (Ok r) w from c.in-Ok.ensures.looks));
       learns = subst (λ (y : CallerView). OnlyLearns y (caller_view worn w)) is x.learns;
       keeps = subst (λ (y : CallerView). KeepsKnown y.seat w) is x.keeps;
+      once = subst (λ (y : CallerView). LooksOnce l (Ok r) y.seat w) is (sees v b l (Ok r) w from c.in-Ok.ensures.looks);
     }
 
 pub returns-in-Err : goal.returns-in-Err
@@ -57,6 +58,7 @@ returns-in-Err c =
       reads = subst (λ (y : CallerView). IsBusy y.seat steps w) is (read_busy v w l steps e (sees v b l (Err e) w from c.in-Err.ensures.looks) (counted v.seat.made w.seat.made c.steps.result c.steps-before.result x.counts c.steps.ensures c.steps-before.ensures));
       learns = subst (λ (y : CallerView). OnlyLearns y (caller_view worn w)) is x.learns;
       keeps = subst (λ (y : CallerView). KeepsKnown y.seat w) is x.keeps;
+      once = subst (λ (y : CallerView). LooksOnce l (Err (record { steps = steps })) y.seat w) is (sees v b l (Err e) w from c.in-Err.ensures.looks);
     }
 
 pub invariant_of-caller : goal.invariant_of-caller

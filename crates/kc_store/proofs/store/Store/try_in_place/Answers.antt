@@ -46,7 +46,7 @@ returns g c =
     let is = (caller_of c.caller.inside.worn c.deref_mut.result.now c.caller.inside.seat.value c.args.caller.now c.deref_mut.ensures.value c.caller.view_is) in
     let s : Settles m a v f w = e.settles in
     record {
-      told = subst (λ x. IsTold m a x f (caller_view new w)) is (told old new m a v f w s);
+      told = subst (λ x. IsTold m a x f (caller_view new w)) is (told old new m a v f w (notes_as c.try_quietly-fate.result t a old new c.note_worn.ensures refl) s);
       tries = subst (λ (x : CallerView). Tries m f x.seat w) is e.tries;
       settles = subst (λ (x : CallerView). Settles m a x.seat f w) is s;
       keeps = subst (λ (x : CallerView). KeepsKnown x.seat w) is e.keeps;

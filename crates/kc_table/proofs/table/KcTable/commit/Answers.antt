@@ -1,11 +1,11 @@
-use Rattle.std.proofs.Common.{◌≡◌, ◌∙◌, ap, subst, sym, true}
+use Rattle.std.proofs.Common.{◌≡◌, ◌∙◌, ap, false, refl, subst, sym, true}
 use Rattle.kc_machine.specs.Points.{first_point, seat_at_point}
 use Rattle.kc_machine.specs.Seats.{is_idle}
 use Rattle.kc_machine_steps.specs.declared.task.Task.TheVariants as task
-use Rattle.kc_table.proofs.Wholes.{commit_begins, commit_starts, on_begins}
+use Rattle.kc_table.proofs.Wholes.{commit_begins, commit_starts, on_begins, ran}
 use Rattle.kc_table_layout.specs.Cells.{base_of}
 use Rattle.kc_table_moves.specs.Atoms.{Here}
-use Rattle.kc_table_moves.specs.Views.{SeatView}
+use Rattle.kc_table_moves.specs.Views.{RanQuietly, SeatView, seat_seen_as}
 use Rattle.kc_table.proofs.table.KcTable.commit.Goals as goal
 
 pub commit_by-requires-clause-on : goal.commit_by-requires-clause-on
@@ -28,3 +28,11 @@ commit_by-requires-clause-on c = λ r is.
     (subst (λ v. Here r.words.now.key v c.base_at.result z me) (sym is.table) (subst (λ v. Here v w.table_id c.base_at.result z me) (sym is.key) here)))
     c.seat.invariant c.seat.view_is (commit_starts c.args.seat.now c.args.footprint.now m c.requires.idle) c.requires.made c.requires.known
     (commit_begins s c.args.footprint.now m xs idle c.requires.lines ∙ same)
+
+pub returns-clause-quiet : goal.returns-clause-quiet
+returns-clause-quiet c =
+    subst (λ (v : SeatView). RanQuietly v (task.Commit c.args.footprint.now c.args.mode) (seat_seen_as c.commit_by.new.token.table_id c.commit_by.new.token.me false c.commit_by.new.seat)) c.seat.view_is
+    (record { steps = c.commit_by.ensures.steps; shown = refl })
+
+pub returns-clause-ran : goal.returns-clause-ran
+returns-clause-ran c = ran _ _ _ (returns-clause-quiet c)

@@ -1,6 +1,8 @@
-use Rattle.std.proofs.Common.{◌+◌, arith, sym, ap, ◌∙◌}
+use Rattle.std.proofs.Common.{◌+◌, arith, length, sym, ap, ◌∙◌}
+use Rattle.atomic_table.specs.Table.{Me}
 use Rattle.kc_table.proofs.Begins.{ready_merged, joined_loads, joined_view}
 use Rattle.kc_table_moves.proofs.Unmoved.{merges}
+use Rattle.kc_table_moves.specs.declared.view.View.{View}
 use Rattle.kc_table.proofs.table.KcTable.join.Goals as goal
 
 pub hear_note-requires : goal.hear_note-requires
@@ -12,8 +14,12 @@ hear_note-requires c =
       omega arith,
     )
 
-pub merge-requires : goal.merge-requires
-merge-requires c =
+pub merge-requires-clause-own : goal.merge-requires-clause-own
+merge-requires-clause-own c =
+    let j = c.hear_note.ensures in ap (λ (m : Me Unit View). length m.0.parts) j.2 ∙ ap (λ (m : Me Unit View). length m.0.parts) c.seat.invariant.is
+
+pub merge-requires-clause-permits : goal.merge-requires-clause-permits
+merge-requires-clause-permits c =
     let i = c.self.invariant in
     let j = c.hear_note.ensures in
     let r = c.seat.invariant in (

@@ -1,12 +1,17 @@
-use Rattle.std.proofs.Common.{◌+◌, ◌*◌, arith, refl, sym, ap, ◌∙◌}
+use Rattle.std.proofs.Common.{◌+◌, ◌*◌, arith, length, refl, sym, ap, ◌∙◌}
 use borrow.Author.Tests.{eq-eqb, ne_eqb}
+use Rattle.atomic_table.specs.Table.{Me}
 use Rattle.kc_table_straight.proofs.kc_machine_invariants.SeatedSteps.{seats_stay}
 use Rattle.kc_table.proofs.Begins.{ready_caller, ready_heard, heard_loads, heard_view}
 use Rattle.kc_table_moves.proofs.Unmoved.{hears_signal}
+use Rattle.kc_table_moves.specs.declared.view.View.{View}
 use Rattle.kc_table.proofs.table.KcTable.signalled.Goals as goal
 
-pub hear-requires : goal.hear-requires
-hear-requires c =
+pub hear-requires-clause-own : goal.hear-requires-clause-own
+hear-requires-clause-own c = ap (λ (m : Me Unit View). length m.0.parts) c.seat.invariant.is
+
+pub hear-requires-clause-permits : goal.hear-requires-clause-permits
+hear-requires-clause-permits c =
     let i = c.self.invariant in
     let r = c.seat.invariant in
     let e = ready_caller c.seat.inside.token.me c.seat.inside.began c.seat.inside.machine seats_stay r in
