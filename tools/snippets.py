@@ -1,8 +1,8 @@
 #!/usr/bin/env python3
-"""Compares the snippets of README.md with the crates that they are from.
+"""Compares the snippets of README.md and docs/TOUR.md with the crates that they are from.
 
 A block that begins with ```rust NAME or ```antt NAME quotes the crate NAME: its lines stand in one file of the crate's src/ or
-specs/, one behind another, up to the whitespace at their ends. A comment behind a line of the block is the README's own. A block
+specs/, one behind another, up to the whitespace at their ends. A comment behind a line of the block is the page's own. A block
 of Rust or antt that names no crate is refused. Prints the blocks that stand nowhere, with their first line that fits no more;
 the status is 0 where there is none.
 
@@ -14,6 +14,8 @@ import os
 import sys
 
 TOP = os.path.dirname(os.path.dirname(os.path.abspath(__file__)))
+# The pages that quote.
+PAGES = ("README.md", "docs/TOUR.md")
 # The languages of snippets, each with what begins a comment.
 COMMENTS = {"rust": "//", "antt": "--"}
 
@@ -94,4 +96,4 @@ def main(paths):
 
 
 if __name__ == "__main__":
-    sys.exit(main(sys.argv[1:] or [os.path.join(TOP, "README.md")]))
+    sys.exit(main(sys.argv[1:] or [os.path.join(TOP, it) for it in PAGES]))

@@ -1,5 +1,5 @@
 #!/usr/bin/env bash
-# Times mixes of commits on the lock-free store and on the store behind one lock, beside the bare atomic operations of the first, as
+# Times mixes of commits and views on the lock-free store and on the store behind one lock, beside the bare atomic operations of the first, as
 # they are and with release stores, GHC's STM, a C++ mutex and GCC's transactional memory, by 1, 2 and 4 threads. Builds all anew, in a
 # clone of its own, and runs them in turn; a peer that this machine can't build is left out with a line on standard error. Each program
 # fails where its last values aren't what its commits add up to.

@@ -150,6 +150,38 @@ addEight store place = go 0 0
         | n == locations = add store place sum'
         | otherwise = readTVar (unsafeAt store n) >>= \value -> go (n + 1) (sum' + value)
 
+-- The first eight locations each name a cell behind them.
+named :: Int -> Int
+named place = locations + place `mod` 4
+
+-- Nine finds to each put: a find reads a location, and the cell that it names.
+finds :: Int -> IO ()
+finds threads = do
+    store <- newStore
+    forM_ [0 .. locations - 1] (\place -> atomically (add store place (fromIntegral (named place))))
+    took <- timed threads (\number -> findsOf store each (fromIntegral number + 1))
+    found <- values store
+    check "finds" (found == findsValues threads)
+    out "finds" threads took (threads * each)
+
+findsOf :: Store -> Int -> Word32 -> IO ()
+findsOf _ 0 _ = pure ()
+findsOf store n state
+    | n `mod` 10 == 1 = atomically (add store (named place) 1) >> findsOf store (n - 1) drawn
+    | otherwise = atomically (find store place) >>= \value -> value `seq` findsOf store (n - 1) drawn
+  where
+    drawn = next state
+    Command _ place _ _ = command drawn
+
+find :: Store -> Int -> STM Word32
+find store place = readTVar (unsafeAt store place) >>= readTVar . unsafeAt store . fromIntegral
+
+findsValues :: Int -> [Word32]
+findsValues threads = elems (accumArray (+) 0 (0, cells - 1) (first ++ concatMap ofThread [0 .. threads - 1]))
+  where
+    first = [(place, fromIntegral (named place)) | place <- [0 .. locations - 1]]
+    ofThread number = [(named place, 1) | (n, state) <- zip [each, each - 1 .. 1] (tail (iterate next (fromIntegral number + 1))), n `mod` 10 == 1, let Command _ place _ _ = command state]
+
 -- The head, the number of items, and the ring.
 data Queue = Queue !(TVar Int) !(TVar Int) !Store
 
@@ -204,6 +236,6 @@ handOver place expected = do
 
 main :: IO ()
 main = replicateM_ rounds $ do
-    forM_ [1, 2, 4] (\threads -> storm threads >> same threads >> own threads >> transfers threads >> readings threads)
+    forM_ [1, 2, 4] (\threads -> storm threads >> same threads >> own threads >> transfers threads >> readings threads >> finds threads)
     queue
     turns

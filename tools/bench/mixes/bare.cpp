@@ -35,6 +35,14 @@ public:
         while (!commit(lines, locations, locations + 1)) {}
     }
 
+    // Two loads, and two more that confirm them.
+    uint32_t find(uint32_t place) {
+        for (;;) {
+            uint64_t first = look(place), second = look(uint32_t(first));
+            if (location(place) == first && location(uint32_t(first)) == second) return uint32_t(second);
+        }
+    }
+
     Values values() {
         Values all{};
         for (uint32_t place = 0; place < cells; place++) all[place] = uint32_t(look(place));

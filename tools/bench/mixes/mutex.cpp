@@ -23,6 +23,11 @@ public:
         for (uint32_t place = 0; place < locations; place++) at[own] += at[place];
     }
 
+    uint32_t find(uint32_t place) {
+        std::lock_guard<std::mutex> held(lock);
+        return at[at[place]];
+    }
+
     void enqueue(uint32_t item) {
         std::unique_lock<std::mutex> held(lock);
         changed.wait(held, [&] { return count < capacity; });

@@ -138,6 +138,34 @@ template <class Store> void reads(const char *who, uint32_t threads) {
     print(who, "reads", threads, took, threads * each);
 }
 
+// The first eight locations each name a cell behind them.
+inline uint32_t named(uint32_t place) { return locations + place % most_threads; }
+
+// Nine finds to each put: a find reads a location, and the cell that it names.
+template <class Store> void mostly_reads(const char *who, uint32_t threads) {
+    Store store;
+    for (uint32_t place = 0; place < locations; place++) store.add(place, named(place));
+    double took = timed(threads, [&](uint32_t number) {
+        uint32_t state = number + 1;
+        for (uint32_t n = 0; n < each; n++) {
+            uint32_t place = draw(state).place;
+            if (n % 10 == 9) store.add(named(place), 1);
+            else store.find(place);
+        }
+    });
+    Values sums{};
+    for (uint32_t place = 0; place < locations; place++) sums[place] = named(place);
+    for (uint32_t number = 0; number < threads; number++) {
+        uint32_t state = number + 1;
+        for (uint32_t n = 0; n < each; n++) {
+            uint32_t place = draw(state).place;
+            if (n % 10 == 9) sums[named(place)] += 1;
+        }
+    }
+    check(store.values() == sums, "finds");
+    print(who, "finds", threads, took, threads * each);
+}
+
 template <class Store> void queue(const char *who) {
     Store store;
     uint64_t sum = 0;
@@ -168,6 +196,7 @@ template <class Store> void run_all(const char *who) {
             own<Store>(who, threads);
             transfers<Store>(who, threads);
             reads<Store>(who, threads);
+            mostly_reads<Store>(who, threads);
         }
         if constexpr (Store::waits) {
             queue<Store>(who);

@@ -24,6 +24,7 @@ MIXES = {
     "own": "each on its own",
     "transfers": "a transfer",
     "reads": "eight reads, one put",
+    "finds": "nine finds to a put",
     "queue": "a queue of 16",
     "turns": "a hand-over (µs)",
 }

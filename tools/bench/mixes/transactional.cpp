@@ -24,6 +24,12 @@ public:
         }
     }
 
+    uint32_t find(uint32_t place) {
+        uint32_t found;
+        __transaction_atomic { found = at[at[place].value].value; }
+        return found;
+    }
+
     Values values() {
         Values all;
         for (uint32_t place = 0; place < cells; place++) all[place] = at[place].value;

@@ -42,6 +42,18 @@ public:
         kcas_run(&bell, mine(), body, &own);
     }
 
+    // The library for C has no views: a find is a commit.
+    uint32_t find(uint32_t place) {
+        auto body = [](kcas_log *log, void *with) -> uint32_t {
+            uint32_t *at = static_cast<uint32_t *>(with);
+            *at = kcas_read_in(log, kcas_read_in(log, *at));
+            return KCAS_COMMIT;
+        };
+        uint32_t at = place;
+        kcas_run(&bell, mine(), body, &at);
+        return at;
+    }
+
     void enqueue(uint32_t item) {
         kcas_op ops[] = {kcas_check(ring.base + 1, KCAS_LT, capacity), kcas_do(ring, KCAS_ENQ, item, 0)};
         kcas_reply replies[2];
