@@ -3,10 +3,10 @@
 ghost use Rattle.std.specs.Prelude.{◌≡◌};
 
 use crate::asserts::{equal, equal_at};
-use crate::tests::{FAILED, SUCCEEDED, end, go, opened, saw_both, together};
+use crate::tests::{FAILED, SUCCEEDED, end, go, opened, saw_both, see, steps, together};
 use kc_machine_steps::Told;
 use kc_machine_words::Mode;
-use kc_model::Loc;
+use kc_model::{Loc, Seen};
 use kc_table::{KcSeat, KcTable};
 use std::process::Abort;
 use std::test::Fail;
@@ -141,4 +141,23 @@ fn an_owner_that_was_halted_leaves_nothing_half_done(rt: HostRuntime) -> Result<
         equal_at(&rt, made, stood, stands);
     }
     Ok(())
+}
+
+#[test]
+fn a_view_of_what_an_owner_left_stands_once_its_commit_has_helped(rt: HostRuntime) {
+    let (table, mut owner, mut viewer) = opened(&rt, &[5, 6]);
+    let mine = saw_both(&rt, &table, &mut owner);
+    let puts = [Some(7), Some(8)];
+    let made = go(&rt, &table, &mut owner, Mode::All, &mine, &puts, 9);
+    equal(&rt, made, 9);
+    // No plain word stands there, however often it is viewed.
+    for _ in 0..8 {
+        equal(&rt, see(&table, &mut viewer, Loc(0)), None);
+        steps(&table, &mut viewer, &[], STEPS);
+    }
+    let theirs = saw_both(&rt, &table, &mut viewer);
+    go(&rt, &table, &mut viewer, Mode::All, &theirs, &[None, None], STEPS);
+    equal(&rt, viewer.told(), FAILED);
+    let seven = Seen { loc: Loc(0), version: 1, value: 7 };
+    equal(&rt, see(&table, &mut viewer, Loc(0)), Some(seven));
 }
