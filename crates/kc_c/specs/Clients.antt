@@ -33,8 +33,9 @@ abbrev pub AreOpened : StoreView → ℕ → List KcasCaller → Type 0
 AreOpened z k [] = Unit {0}
 AreOpened z k (h ∷ hs) = IsOpened z k h × AreOpened z (suc k) hs
 
--- they are all callers of one store, in which these values stand at version 0
+-- they are all callers of one store, in which these values stand at version 0, and whose descriptors have all their lives
 pub record OpensAll (values : List ℕ) (handles : List KcasCaller) : Type 0 where
   pub store : StoreView
   pub opens : OpensWith values (replicate (length values) 0) (length handles) store
+  pub lives : store.table.origin.generation ≡ 0
   pub are : AreOpened store 0 handles

@@ -28,3 +28,4 @@ pub record IsReadByCaller (l : ℕ) (c : Client) (n : ℕ) (d : Client) (before_
   pub reads : store.IsReadOrBusy l got caller then_caller
   pub learns : OnlyLearns caller then_caller
   pub tells : ReadTold got n before_value before_version value version
+  pub kept : d.footprint ≡ c.footprint

@@ -16,7 +16,8 @@ use Rattle.kc_model.specs.Footprint.{IsBelow}
 use Rattle.kc_model.specs.declared.footprint.Footprint.{Footprint}
 use Rattle.kc_model.specs.declared.footprint.TheConstants.{MOST}
 use Rattle.kc_model.specs.declared.reply.Item.TheVariants as item
-use Rattle.kc_store.specs.Knows.{IsTold, Remembers}
+use Rattle.kc_store.specs.Answers.{Settles}
+use Rattle.kc_store.specs.Knows.{IsTold, NotesWear, Remembers}
 use Rattle.kc_store.specs.Verdicts.{has_entry}
 use Rattle.kc_store.specs.Views.{CallerView}
 use Rattle.kc_store.specs.declared.verdict.Verdict.{Verdict}
@@ -52,6 +53,8 @@ pub record IsTried (ops : List KcasOp) (c : Client) (n : ℕ) (d : Client) (befo
   pub verdict : Verdict
   pub number : n ≡ verdict_number verdict
   pub told : IsTold (limited MOST (calls_meaning ops)) verdict caller d.footprint then_caller
+  pub settles : Settles (limited MOST (calls_meaning ops)) verdict caller.seat d.footprint then_caller.seat
+  pub notes : NotesWear caller verdict then_caller
   pub remembers : Remembers caller then_caller
   pub within : has_entry verdict ≡ true → IsBelow (calls_end ops) d.footprint
   pub replies : after ≡ replies_written ops verdict before
@@ -61,6 +64,8 @@ pub record IsTriedSilently (m : Meaning) (end : ℕ) (n : ℕ) (c d : CallerView
   pub verdict : Verdict
   pub number : n ≡ verdict_number verdict
   pub tells : IsTold m verdict c f d
+  pub settles : Settles m verdict c.seat f d.seat
+  pub notes : NotesWear c verdict d
   pub remembers : Remembers c d
   pub within : has_entry verdict ≡ true → IsBelow end f
 

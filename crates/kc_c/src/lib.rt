@@ -7,6 +7,7 @@ mod answers;
 mod client;
 mod handle;
 mod handles;
+mod laws;
 mod opening;
 mod reading;
 mod reads;

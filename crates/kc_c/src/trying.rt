@@ -11,7 +11,8 @@ ghost use Rattle.kc_loc.specs.Meaning.{LocIsFit, loc_end, loc_meaning};
 ghost use Rattle.kc_model.specs.Footprint.{IsBelow};
 ghost use Rattle.kc_model.specs.declared.reply.Reply.{Reply};
 ghost use Rattle.kc_model.specs.declared.footprint.TheConstants.{MOST};
-ghost use Rattle.kc_store.specs.Knows.{IsTold, Remembers};
+ghost use Rattle.kc_store.specs.Answers.{Settles};
+ghost use Rattle.kc_store.specs.Knows.{IsTold, NotesWear, Remembers};
 ghost use Rattle.kc_store.specs.Verdicts.{has_entry, verdict_as};
 ghost use Rattle.kc_xt.specs.Commit.{tried_of};
 ghost use Rattle.kc_xt.specs.Meaning.{limited};
@@ -200,6 +201,8 @@ fn try_calls(
     requires fit { CallsAreFit ops.now }
     requires within { calls_end ops.now ≤ store.now.locations }
     ensures told { IsTold (limited MOST (calls_meaning ops.now)) (verdict_as result (tried_of trial.new.went trial.new.reply)) caller.old footprint.new caller.new }
+    ensures settles { Settles (limited MOST (calls_meaning ops.now)) (verdict_as result (tried_of trial.new.went trial.new.reply)) caller.old.seat footprint.new caller.new.seat }
+    ensures notes { NotesWear caller.old (verdict_as result (tried_of trial.new.went trial.new.reply)) caller.new }
     ensures remembers { Remembers caller.old caller.new }
     ensures within { has_entry (verdict_as result (tried_of trial.new.went trial.new.reply)) ≡ true → IsBelow (calls_end ops.now) footprint.new }
 {

@@ -20,7 +20,7 @@ pub use call::Call;
 pub use calls::{Calls, MOST_ALTERNATIVES, MOST_CALLS};
 pub use checks::are_operations;
 pub use kinds::{ACCUMULATOR, CACHE, GROW, LOCATION, MVAR, PROMISE, QUEUE, STACK, TABLE};
-pub use laws::numbers_say_their_operation;
+pub use laws::{numbers_are_those_of_the_header, numbers_say_their_operation};
 pub use object::{KcasObject, cells, opening};
 pub use operation::KcasOp;
 pub use reply::{KcasReply, tell};

@@ -17,6 +17,7 @@ module _ (t : Texts) (values : List ℕ) (z : StoreView) (callers : List CallerV
       record {
         zeros = opened.opening ∙ zeros;
         versions = opens_at_zero values 2 0 z at view;
+        lives = at.first;
         locations = with.locations ∙ ap length zeros ∙ length-replicate (texts_cells_end t) 0;
         callers = opened.callers_are;
       }

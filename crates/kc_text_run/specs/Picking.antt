@@ -5,7 +5,7 @@ use Rattle.kc_model.specs.declared.footprint.Entry.{Entry}
 use Rattle.kc_model.specs.declared.reply.Answer.TheVariants as answer
 use Rattle.kc_model.specs.declared.reply.Reply.{Reply}
 use Rattle.kc_model.specs.declared.reply.Reply.TheVariants as reply
-use Rattle.kc_run.specs.Kcas.{OpensAtZero, history_in, values_in, values_of}
+use Rattle.kc_run.specs.Kcas.{OpensAtZero, values_in, values_of}
 use Rattle.kc_store.specs.Views.{CallerView, PastView, StoreView}
 use Rattle.kc_text.specs.Meaning.{texts_cells_end, op, text_meaning}
 use Rattle.kc_text.specs.Pool.{IsTextOf}
@@ -44,10 +44,11 @@ AreTextsOf pool (k ∷ ks) (x ∷ xs) = IsTextOf pool k x × AreTextsOf pool ks 
 
 -- ---- two callers
 
--- a store of zeros for these texts and two callers
+-- a store of zeros for these texts and two callers, whose descriptors have all their lives
 pub record IsForTwo (t : Texts) (z : StoreView) : Type 0 where
   pub zeros : values_of z ≡ replicate (texts_cells_end t) 0
   pub versions : OpensAtZero z
+  pub lives : z.table.origin.generation ≡ 0
   pub locations : z.locations ≡ texts_cells_end t
   pub callers : z.callers ≡ 2
 
@@ -65,10 +66,10 @@ second_half picks = drop (length picks / 2) picks
 -- what is left of a store on which two callers read these picks: it opened with zeros, and of its one history, which is legal from them, the first caller has the entries of the first half at place 0, the second those of the rest at place 1, and nobody else has one
 pub record IsPastOfPicks (t : Texts) (picks : List ℕ) (p : PastView) : Type 0 where
   pub zeros : values_in p ≡ replicate (texts_cells_end t) 0
-  pub legal : IsLegalFrom (values_in p) (history_in p)
-  pub first : ArePicks t 0 (first_half picks) (of_caller 0 (history_in p))
-  pub second : ArePicks t 1 (second_half picks) (of_caller 1 (history_in p))
-  pub nobody_else : IsBelowCallers 2 (history_in p)
+  pub legal : IsLegalFrom (values_in p) p.history
+  pub first : ArePicks t 0 (first_half picks) (of_caller 0 p.history)
+  pub second : ArePicks t 1 (second_half picks) (of_caller 1 p.history)
+  pub nobody_else : IsBelowCallers 2 p.history
 
 -- likewise, of so many texts that lie from location 0 on, with a place for each caller
 pub record WereReadByTwo (n : ℕ) (picks : List ℕ) (p : PastView) : Type 0 where

@@ -13,6 +13,8 @@ returns-then-is_done g c =
       verdict = v;
       number = sym is;
       tells = c.try_in_place-fate.ensures.told;
+      settles = c.try_in_place-fate.ensures.settles;
+      notes = c.try_in_place-fate.ensures.notes;
       remembers = c.try_in_place-fate.ensures.remembers;
       within = c.try_in_place-fate.ensures.within;
     }
@@ -22,6 +24,8 @@ returns g c = record {
   verdict = verdict_as c.try_in_place-fate.result (tried_of c.try_in_place-fate.new.trial.went c.try_in_place-fate.new.trial.reply);
   number = c.number_of.ensures _;
   tells = c.try_in_place-fate.ensures.told;
+  settles = c.try_in_place-fate.ensures.settles;
+  notes = c.try_in_place-fate.ensures.notes;
   remembers = c.try_in_place-fate.ensures.remembers;
   within = c.try_in_place-fate.ensures.within;
 }
