@@ -1,25 +1,20 @@
 -- The values and the one history of a lock-free store whose callers came back.
-use Rattle.std.proofs.Common.{◌≡◌, ℕ, zero, suc, ◌+◌, ◌<◌, ◌==◌, Bool, true, false, cond, List, [], ◌∷◌, length, map, get_or, refl, sym, ap, ◌∙◌, subst, arith}
+use Rattle.std.proofs.Common.{◌≡◌, ℕ, zero, suc, ◌+◌, ◌<◌, ◌==◌, cond, List, [], ◌∷◌, length, map, get_or, refl, sym, ap, ◌∙◌, subst, arith}
 use Rattle.std.specs.Prelude.{All, IsPermutation}
-use Rattle.std.proofs.lemmas.List.{get_or-map, length-map}
-use Rattle.std.proofs.lemmas.List.Elements.{All-head, All-map, All-tail, All-weaker}
+use Rattle.std.proofs.lemmas.List.{length-map}
+use Rattle.std.proofs.lemmas.List.Elements.{All-head, All-tail, All-weaker}
 use Rattle.std.proofs.lemmas.List.Sorted.{IsPermutation-refl}
-use Rattle.kc_history.specs.Callers.{IsBelowCallers, IsLegalFrom, of_caller}
-use Rattle.kc_machine_traces.specs.Histories.{History, Placed, ending_store, entries}
-use Rattle.kc_machine_traces.specs.Traces.{first_store}
-use Rattle.kc_machine_traces.specs.Entries.{placed_by}
+use Rattle.kc_history.specs.Callers.{IsLegalFrom, of_caller}
 use Rattle.kc_model.specs.Footprint.{IsBelow, put_at}
 use Rattle.kc_model.specs.Legal.{IsLegal}
 use Rattle.kc_model.specs.Store.{Finds, Store, after, cell_after, opened, store_of}
 use Rattle.kc_model.specs.declared.footprint.Entry.{Entry}
-use Rattle.kc_run.specs.Kcas.{BelongsTo, values_at}
-use Rattle.kc_store.proofs.Within.{past_lies}
+use Rattle.kc_run.specs.Kcas.{BelongsTo, OpensAtZero, values_at, values_of}
 use Rattle.kc_store.specs.Backs.{AreAllCallers}
-use Rattle.kc_store.specs.Views.{CallerView, StoreView}
-use Rattle.kc_store.specs.Within.{LiesIn}
+use Rattle.kc_store.specs.Knows.{IsHistory, entries_of}
+use Rattle.kc_store.specs.Views.{CallerView, PastView, StoreView, last, store_opening}
 use Rattle.kc_table_moves.specs.Origins.{Origin, opening_of}
-use Rattle.kc_table_moves.specs.Views.{IsPart, IsPast, TablePastView, SeatView, TableView, count_from}
-use Rattle.kc_table_views.specs.Known.{known}
+use Rattle.kc_table_moves.specs.Views.{count_from}
 
 -- ---- values
 
@@ -59,46 +54,24 @@ legal_there n s t e (x ∷ xs) same below (finds, legal) =
     let rest = legal_there n (after x.footprint s) (after x.footprint t) e xs (λ l lt. ap (cell_after (put_at x.footprint.puts.items l)) (same l lt)) (All-tail P x xs below) legal in
     (rest.0, (there, rest.1))
 
-entries_lie : (n : ℕ) (h : History) → All (LiesIn n) h → All (λ (x : Entry). IsBelow n x.footprint) (entries h)
-entries_lie n h lie = All-map (λ (x : Entry). IsBelow n x.footprint) (λ (x : Placed). x.entry) h (All-weaker (LiesIn n) (λ (x : Placed). IsBelow n x.entry.footprint) (λ x l. l.reads) h lie)
-
--- the entries of the one history of a table
-abbrev pub entries_in : TablePastView → List Entry
-entries_in p = entries (known (opening_of p.origin) p.schedule)
-
-pub legal_from_values : (z : TableView) (seats : List SeatView) (p : TablePastView) → ((l : ℕ) → l < z.origin.locations → (opening_of z.origin).version l ≡ 0) → IsPast z seats p → IsLegalFrom (values_at z.origin) (entries_in p)
-legal_from_values z seats p zeros past =
-    let o = opening_of p.origin in
-    let h = known o p.schedule in
-    let at_zero : (l : ℕ) → l < z.origin.locations → first_store o l ≡ store_of (opened (values_at z.origin)) l =
+-- what a store's past says in its user's words, from these values at version 0
+pub legal_from_values : (z : StoreView) (callers : List CallerView) (p : PastView) → OpensAtZero z → IsHistory z callers p → All (λ (e : Entry). IsBelow z.locations e.footprint) p.history → IsLegalFrom (values_of z) p.history
+legal_from_values z callers p opens history within =
+    let n = z.table.origin.locations in
+    let at_zero : (l : ℕ) → l < n → store_opening z l ≡ store_of (opened (values_of z)) l =
     λ l lt. let at : 0 + l ≡ l = omega arith in
-    ap (λ (q : Origin). first_store (opening_of q) l) past.origin ∙ ap (λ v. record { version = v; value = (opening_of z.origin).value l }) (zeros l lt) ∙ sym (cells_at (opening_of z.origin).value 0 z.origin.locations l lt ∙ ap (λ m. record { version = 0; value = (opening_of z.origin).value m }) at) in
-    legal_there z.origin.locations (first_store o) (store_of (opened (values_at z.origin))) (ending_store (first_store o) h) (entries h) at_zero (entries_lie z.origin.locations h (past_lies z seats p past)) past.whole.legal
+    ap (λ v. record { version = v; value = (opening_of z.table.origin).value l }) (opens.zeros l lt) ∙ sym (cells_at (opening_of z.table.origin).value 0 n l lt ∙ ap (λ m. record { version = 0; value = (opening_of z.table.origin).value m }) at) in
+    let below : All (λ (e : Entry). IsBelow n e.footprint) p.history = subst (λ (x : StoreView). All (λ (e : Entry). IsBelow x.locations e.footprint) p.history) opens.shown within in
+    legal_there n (store_opening z) (store_of (opened (values_of z))) (last p) p.history at_zero below history.legal
 
 -- ---- callers
 
-either_way : (b : Bool) (x : Placed) (h : History) (es : List Entry) → es ≡ entries h → cond b (x.entry ∷ es) es ≡ entries (cond b (x ∷ h) h)
-either_way true x h es e = ap (λ (l : List Entry). x.entry ∷ l) e
-either_way false x h es e = e
+of_caller_is : (k : ℕ) (es : List Entry) → of_caller k es ≡ entries_of k es
+of_caller_is k [] = refl
+of_caller_is k (e ∷ es) = ap (λ l. cond (e.caller == k) (e ∷ l) l) (of_caller_is k es)
 
-entries_by : (k : ℕ) (h : History) → of_caller k (entries h) ≡ entries (placed_by k h)
-entries_by k [] = refl
-entries_by k (x ∷ h) = either_way (x.entry.caller == k) x (placed_by k h) (of_caller k (entries h)) (entries_by k h)
-
-pub own_parts : (z : StoreView) (callers : List CallerView) (p : TablePastView) → All (BelongsTo z) callers → IsPast z.table (map (λ (c : CallerView). c.seat) callers) p → All (λ (c : CallerView). of_caller c.number (entries_in p) ≡ c.own) callers
-own_parts z callers p belong past k d lt =
-    let f : CallerView → SeatView = λ c. c.seat in
-    let o = opening_of p.origin in
-    let c : CallerView = get_or callers k d in
-    let there : k < length (map f callers) = subst (λ n. k < n) (sym (length-map callers f)) lt in
-    let part = subst (IsPart o p.schedule) (get_or-map f callers k d (f d) lt) (past.parts k (f d) there) in
-    let shown = (belong k d lt).shown in
-    ap (λ (b : CallerView). of_caller b.number (entries_in p)) shown ∙ entries_by c.seat.number (known o p.schedule) ∙ ap entries part.1.own ∙ sym (ap (λ (b : CallerView). b.own) shown)
-
-pub below_callers : (z : TableView) (seats : List SeatView) (p : TablePastView) → IsPast z seats p → IsBelowCallers z.origin.callers (entries_in p)
-below_callers z seats p past =
-    subst (λ (q : Origin). IsBelowCallers q.callers (entries_in p)) past.origin
-    (All-map (λ (e : Entry). e.caller < p.origin.callers) (λ (x : Placed). x.entry) (known (opening_of p.origin) p.schedule) past.whole.of_callers)
+pub own_parts : (z : StoreView) (callers : List CallerView) (p : PastView) → IsHistory z callers p → All (λ (c : CallerView). of_caller c.number p.history ≡ c.own) callers
+own_parts z callers p history = All-weaker (λ (c : CallerView). entries_of c.number p.history ≡ c.own) (λ (c : CallerView). of_caller c.number p.history ≡ c.own) (λ c own. of_caller_is c.number p.history ∙ own) callers history.own
 
 -- ---- all callers
 

@@ -2,7 +2,6 @@
 use Rattle.std.specs.Prelude.{◌≡◌, ℕ, ◌+◌, ◌<◌, ◌≤◌, ◌++◌, [], ◌∷◌, List, map}
 use Rattle.std.specs.Global.{Vec}
 use Rattle.kc_await.specs.Waiting.{CommitsAtLast}
-use Rattle.kc_machine_traces.specs.Histories.{entries}
 use Rattle.kc_model.specs.Legal.{IsLegal}
 use Rattle.kc_model.specs.Store.{Store}
 use Rattle.kc_model.specs.declared.footprint.Entry.{Entry}
@@ -17,10 +16,9 @@ use Rattle.kc_store.specs.declared.verdict.Answered.{Answered}
 use Rattle.kc_table_moves.specs.Origins.{Origin, opening_of}
 use Rattle.kc_table_moves.specs.Views.{count_from}
 use Rattle.kc_table_moves.specs.Views.{SeatView}
-use Rattle.kc_table_views.specs.Known.{known}
 use Rattle.kc_xt.specs.Meaning.{Meaning}
 
--- ---- the values and the history
+-- ---- the values
 
 -- the opening values, location by location
 abbrev pub values_at : Origin → List ℕ
@@ -31,10 +29,6 @@ values_of z = values_at z.table.origin
 
 abbrev pub values_in : PastView → List ℕ
 values_in p = values_at p.past.origin
-
--- the entries of the one history, in order
-abbrev pub history_in : PastView → List Entry
-history_in p = entries (known (opening_of p.past.origin) p.past.schedule)
 
 -- each location opened at version 0
 pub record OpensAtZero (z : StoreView) : Type 0 where

@@ -2,7 +2,7 @@
 
 ghost use Rattle.std.specs.Prelude.{◌≡◌, ◌↔◌, ◌<◌, ◌≤◌, ◌⊎◌, All, Err, IfOk, length, map, true};
 ghost use Rattle.kc_history.specs.Callers.{of_caller, IsBelowCallers, IsLegalFrom};
-ghost use Rattle.kc_run.specs.Kcas.{AllKcDealt, BelongsTo, LastIsWorn, OpenedForCallers, history_in, values_in, values_of};
+ghost use Rattle.kc_run.specs.Kcas.{AllKcDealt, BelongsTo, LastIsWorn, OpenedForCallers, values_in, values_of};
 ghost use Rattle.kc_table_moves.specs.Views.{count_from};
 
 use crate::shared::Shared;
@@ -37,7 +37,7 @@ impl Model for KcShared {
 /// A pass is a caller that has made commits that wait, and nothing else.
 impl Shared for KcShared {
     ghost use Rattle.std.specs.Prelude.{true};
-    ghost use Rattle.kc_run.specs.Kcas.{BelongsTo, history_in, left_in, values_in, values_of};
+    ghost use Rattle.kc_run.specs.Kcas.{BelongsTo, left_in, values_in, values_of};
 
     type Pass = Caller;
 
@@ -59,7 +59,7 @@ impl Shared for KcShared {
 
     ghost began = { values_in };
 
-    ghost history = { history_in };
+    ghost history = { λ p. p.history };
 
     /// Where the store is worn it doesn't return: where a location was put as often as it has versions, or no descriptor has a life left.
     fn commit_command<R: Wait, T: Transact>(
@@ -84,9 +84,9 @@ impl Shared for KcShared {
         requires passes { All (BelongsTo self) callers.items }
         requires all { map (λ c. c.number) callers.items ≡ count_from 0 self.callers }
         ensures began { values_in result ≡ values_of self }
-        ensures legal { IsLegalFrom (values_of self) (history_in result) }
-        ensures own { All (λ c. of_caller c.number (history_in result) ≡ c.own) callers.items }
-        ensures nobody_else { IsBelowCallers self.callers (history_in result) }
+        ensures legal { IsLegalFrom (values_of self) result.history }
+        ensures own { All (λ c. of_caller c.number result.history ≡ c.own) callers.items }
+        ensures nobody_else { IsBelowCallers self.callers result.history }
     {
         let KcShared { store } = self;
         store.finish(callers)

@@ -6,9 +6,12 @@ use Rattle.std.proofs.lemmas.List.Elements.{All-head, All-map, All-tail, All-wea
 use Rattle.kc_hang.specs.kc_machine.Seats.{is_idle}
 use Rattle.kc_hang.specs.kc_machine_traces.Histories.{Placed, entries}
 use Rattle.kc_hang.specs.kc_machine_traces.Traces.{first_store}
+use Rattle.kc_model.specs.Footprint.{IsBelow}
 use Rattle.kc_model.specs.Legal.{IsLegal}
 use Rattle.kc_model.specs.declared.footprint.Entry.{Entry}
 use Rattle.kc_store.proofs.Remembering.{entries_by, entries_within}
+use Rattle.kc_store.proofs.Within.{past_lies}
+use Rattle.kc_store.specs.Within.{LiesIn}
 use Rattle.kc_store.specs.Backs.{AreAllBelow, AreAllCallers, ShowsItsSeat, ShowsRest}
 use Rattle.kc_store.specs.Knows.{IsHistory, IsWithin, entries_of}
 use Rattle.kc_store.specs.Rests.{Rests}
@@ -85,3 +88,9 @@ history_back z y callers p e shown past = subst (λ (x : StoreView). IsHistory x
 
 pub past_back : (z : StoreView) (y : TableView) (seats : List SeatView) (p : TablePastView) → store_view y ≡ z → IsPast y seats p → IsPast z.table seats p
 past_back z y seats p e past = subst (λ (x : TableView). IsPast x seats p) (ap (λ (x : StoreView). x.table) e) past
+
+pub lies_back : (z : StoreView) (y : TableView) (seats : List SeatView) (p : TablePastView) → store_view y ≡ z → IsPast y seats p → All (λ (e : Entry). IsBelow z.locations e.footprint) (past_view p).history
+lies_back z y seats p e past =
+    let h = known (opening_of p.origin) p.schedule in
+    subst (λ (x : StoreView). All (λ (a : Entry). IsBelow x.locations a.footprint) (past_view p).history) e
+    (All-map (λ (a : Entry). IsBelow y.origin.locations a.footprint) (λ (x : Placed). x.entry) h (All-weaker (LiesIn y.origin.locations) (λ (x : Placed). IsBelow y.origin.locations x.entry.footprint) (λ x l. l.reads) h (past_lies y seats p past)))

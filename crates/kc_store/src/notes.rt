@@ -1,6 +1,7 @@
 //! What callers tell each other, and what is left when all came back.
 
 ghost use Rattle.std.specs.Prelude.{◌≡◌, All, map};
+ghost use Rattle.kc_model.specs.Footprint.{IsBelow};
 ghost use Rattle.kc_store.specs.Backs.{AreAllCallers, ShowsRest};
 ghost use Rattle.kc_store.specs.Knows.{IsHistory, IsWithin, OnlyLearns};
 ghost use Rattle.kc_store.specs.Views.{past_view};
@@ -101,6 +102,7 @@ impl Store {
         requires { AreAllCallers self (map H.caller callers.items) }
         ensures history { IsHistory self (map H.caller callers.items) result }
         ensures past { IsPast self.table (map H.seat callers.items) result.past }
+        ensures within { All (λ e. IsBelow self.locations e.footprint) result.history }
         ensures shown { result ≡ past_view result.past }
     {
         all_rest(&callers);

@@ -79,8 +79,6 @@ pub fn read_both<R: Threads + Wait + Sync>(
         move || read_half(rt, shared, first, pool, texts, 0, front, front_lines),
         move || read_half(rt, shared, second, pool, texts, 1, back, back_lines),
     );
-    first.shows();
-    second.shows();
     room.push_reserved(first);
     room.push_reserved(second);
     (front_lines, back_lines, store.finish(room))

@@ -4,7 +4,7 @@ ghost use Rattle.std.specs.Prelude.{◌≡◌, ◌<◌, ◌≤◌, All, IfOk, le
 ghost use Rattle.kc_history.specs.Callers.{IsBelowCallers, IsLegalFrom};
 ghost use Rattle.kc_history.specs.Records.{lists_of};
 ghost use Rattle.kc_model.specs.declared.footprint.TheConstants.{MOST};
-ghost use Rattle.kc_run.specs.Kcas.{values_in, history_in};
+ghost use Rattle.kc_run.specs.Kcas.{values_in};
 ghost use Rattle.kc_run.specs.Run.{CanRunAll};
 ghost use Rattle.kc_script_bundle.specs.Script.{script_of};
 ghost use Rattle.kc_script_bundle.specs.State.{opening_values};
@@ -97,9 +97,9 @@ fn run_kcas<G: Gate, R: Threads + Wait + Sync>(
     requires threads { (0 < length threads.now) × (length threads.now ≤ MOST_THREADS) }
     requires commands { All (λ v. CanRunAll (length values.now) v.items) threads.now }
     ensures opening { IfOk result (λ r. values_in r.1 ≡ values.now) }
-    ensures legal { IfOk result (λ r. IsLegalFrom values.now (history_in r.1)) }
-    ensures run { IfOk result (λ r. AreRunBy GivesBehindLooks limit (length values.now) 0 (history_in r.1) (map (λ v. v.items) threads.now) (lists_of r.0.items)) }
-    ensures nobody_else { IfOk result (λ r. IsBelowCallers (length threads.now) (history_in r.1)) }
+    ensures legal { IfOk result (λ r. IsLegalFrom values.now r.1.history) }
+    ensures run { IfOk result (λ r. AreRunBy GivesBehindLooks limit (length values.now) 0 r.1.history (map (λ v. v.items) threads.now) (lists_of r.0.items)) }
+    ensures nobody_else { IfOk result (λ r. IsBelowCallers (length threads.now) r.1.history) }
 {
     let (store, passes) = open_kcas(alloc, values, threads)?;
     match run_threads(rt, alloc, threads, limit, store, passes, gate) {

@@ -1,10 +1,13 @@
-use Rattle.std.proofs.Common.{◌∙◌, ap, map, subst, sym}
+use Rattle.std.proofs.Common.{◌∙◌, ◌≡◌, List, ap, map, subst, sym}
+use Rattle.std.specs.Prelude.{All}
 use Rattle.kc_history.specs.Callers.{IsBelowCallers}
-use Rattle.kc_run.proofs.Pasts.{are_all, below_callers, legal_from_values, map_same, own_parts}
-use Rattle.kc_run.specs.Kcas.{OpensAtZero, history_in, values_at, values_of}
+use Rattle.kc_model.specs.Footprint.{IsBelow}
+use Rattle.kc_model.specs.declared.footprint.Entry.{Entry}
+use Rattle.kc_run.proofs.Pasts.{are_all, legal_from_values, map_same, own_parts}
+use Rattle.kc_run.specs.Kcas.{OpensAtZero, values_at, values_of}
 use Rattle.kc_store.specs.Backs.{AreAllCallers}
+use Rattle.kc_store.specs.Knows.{IsHistory}
 use Rattle.kc_store.specs.Views.{CallerView, StoreView}
-use Rattle.kc_table_moves.specs.Views.{IsPast}
 use Rattle.kc_run.proofs.kcas.KcSharedShared.finish.Goals as goal
 
 pub finish-requires : goal.finish-requires
@@ -17,19 +20,19 @@ returns-clause-began c = ap values_at c.finish.ensures.past.origin ∙ ap values
 
 pub returns-clause-legal : goal.returns-clause-legal
 returns-clause-legal c =
-    let seats = map (λ (b : CallerView). b.seat) c.args.callers.items in
-    let past = subst (λ (z : StoreView). IsPast z.table seats c.finish.result.past) c.self.view_is c.finish.ensures.past in
-    legal_from_values c.args.self.table seats c.finish.result.past (subst OpensAtZero c.self.view_is c.self.invariant).zeros past
+    let callers = map (λ (b : CallerView). b) c.args.callers.items in
+    let p = c.finish.result in
+    let history = subst (λ (z : StoreView). IsHistory z callers p) c.self.view_is c.finish.ensures.history in
+    let within = subst (λ (z : StoreView). All (λ (e : Entry). IsBelow z.locations e.footprint) p.history) c.self.view_is c.finish.ensures.within in
+    legal_from_values c.args.self callers p (subst OpensAtZero c.self.view_is c.self.invariant) history within
 
 pub returns-clause-own : goal.returns-clause-own
 returns-clause-own c =
-    let seats = map (λ (b : CallerView). b.seat) c.args.callers.items in
-    let past = subst (λ (z : StoreView). IsPast z.table seats c.finish.result.past) c.self.view_is c.finish.ensures.past in
-    own_parts c.args.self c.args.callers.items c.finish.result.past c.requires.passes past
+    let p = c.finish.result in
+    let history = subst (λ (z : StoreView). IsHistory z (map (λ (b : CallerView). b) c.args.callers.items) p) c.self.view_is c.finish.ensures.history in
+    own_parts c.args.self c.args.callers.items p (subst (λ cs. IsHistory c.args.self cs p) (map_same c.args.callers.items) history)
 
 pub returns-clause-nobody_else : goal.returns-clause-nobody_else
 returns-clause-nobody_else c =
-    let seats = map (λ (b : CallerView). b.seat) c.args.callers.items in
-    let past = subst (λ (z : StoreView). IsPast z.table seats c.finish.result.past) c.self.view_is c.finish.ensures.past in
-    let shown = (subst OpensAtZero c.self.view_is c.self.invariant).shown in
-    subst (λ n. IsBelowCallers n (history_in c.finish.result)) (sym (ap (λ (z : StoreView). z.callers) shown)) (below_callers c.args.self.table seats c.finish.result.past past)
+    let callers = map (λ (b : CallerView). b) c.args.callers.items in
+    (subst (λ (z : StoreView). IsHistory z callers c.finish.result) c.self.view_is c.finish.ensures.history).nobody_else

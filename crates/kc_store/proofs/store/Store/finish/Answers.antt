@@ -1,7 +1,7 @@
 use Rattle.std.proofs.Common.{map, refl, subst, sym}
 use Rattle.std.specs.Prelude.{All}
 use Rattle.std.proofs.lemmas.List.Elements.{All-map, All-weaker}
-use Rattle.kc_store.proofs.Back.{all_back, all_shown, history_back, past_back, same_seats}
+use Rattle.kc_store.proofs.Back.{all_back, all_shown, history_back, lies_back, past_back, same_seats}
 use Rattle.kc_store.specs.Backs.{ShowsRest}
 use Rattle.kc_store.specs.Rests.{Rests}
 use Rattle.kc_hang.specs.kc_table_moves.Views.{AreAll, IsPast}
@@ -28,5 +28,6 @@ returns g c =
     record {
       history = history_back c.args.self y (map caller hs) c.finish.result c.self.view_is (all_shown caller seat hs shown) (subst (λ seats. IsPast y seats c.finish.result) same c.finish.ensures);
       past = past_back c.args.self y (map seat hs) c.finish.result c.self.view_is c.finish.ensures;
+      within = lies_back c.args.self y (map seat hs) c.finish.result c.self.view_is c.finish.ensures;
       shown = refl;
     }
