@@ -42,8 +42,18 @@ fn note(y: &Yard, job: u32) -> Unless<HashOp, QueueOp>
 fn a_refusal_takes_its_puts_back(rt: HostRuntime) -> Result<(), Fail> {
     let (y, mut store) = open(rt.alloc())?;
     replies(&rt, &mut store, &on(y.line, QueueAct::Enq(8)), Reply::Unit);
-    replies(&rt, &mut store, &submit_job(y.states, y.line, 1), Reply::Unit);
-    replies(&rt, &mut store, &submit_job(y.states, y.line, 2), Reply::Full);
+    replies(
+        &rt,
+        &mut store,
+        &submit_job(y.states, y.line, 1),
+        Reply::Unit,
+    );
+    replies(
+        &rt,
+        &mut store,
+        &submit_job(y.states, y.line, 2),
+        Reply::Full,
+    );
     replies(
         &rt,
         &mut store,
@@ -57,7 +67,12 @@ fn a_refusal_takes_its_puts_back(rt: HostRuntime) -> Result<(), Fail> {
         &at(y.states, HashAct::Find(2)),
         Reply::Value(WAITING),
     );
-    replies(&rt, &mut store, &submit_job(y.states, y.line, 3), Reply::Full);
+    replies(
+        &rt,
+        &mut store,
+        &submit_job(y.states, y.line, 3),
+        Reply::Full,
+    );
     replies(&rt, &mut store, &on(y.line, QueueAct::Len), Reply::Value(2));
     Ok(())
 }
@@ -65,9 +80,24 @@ fn a_refusal_takes_its_puts_back(rt: HostRuntime) -> Result<(), Fail> {
 #[test]
 fn a_job_that_waits_is_cancelled_and_no_other(rt: HostRuntime) -> Result<(), Fail> {
     let (y, mut store) = open(rt.alloc())?;
-    replies(&rt, &mut store, &cancel_job(y.states, y.end, 1), Reply::Bool(false));
-    replies(&rt, &mut store, &submit_job(y.states, y.line, 1), Reply::Unit);
-    replies(&rt, &mut store, &cancel_job(y.states, y.end, 1), Reply::Unit);
+    replies(
+        &rt,
+        &mut store,
+        &cancel_job(y.states, y.end, 1),
+        Reply::Bool(false),
+    );
+    replies(
+        &rt,
+        &mut store,
+        &submit_job(y.states, y.line, 1),
+        Reply::Unit,
+    );
+    replies(
+        &rt,
+        &mut store,
+        &cancel_job(y.states, y.end, 1),
+        Reply::Unit,
+    );
     replies(
         &rt,
         &mut store,
@@ -79,7 +109,12 @@ fn a_job_that_waits_is_cancelled_and_no_other(rt: HostRuntime) -> Result<(), Fai
         act: PromiseAct::Await,
     };
     replies(&rt, &mut store, &end, Reply::Value(0));
-    replies(&rt, &mut store, &cancel_job(y.states, y.end, 1), Reply::Bool(false));
+    replies(
+        &rt,
+        &mut store,
+        &cancel_job(y.states, y.end, 1),
+        Reply::Bool(false),
+    );
     Ok(())
 }
 
@@ -87,18 +122,38 @@ fn a_job_that_waits_is_cancelled_and_no_other(rt: HostRuntime) -> Result<(), Fai
 fn a_job_starts_where_it_waits(rt: HostRuntime) -> Result<(), Fail> {
     let (y, mut store) = open(rt.alloc())?;
     waits(&rt, &mut store, &release_job(y.line, y.ready));
-    replies(&rt, &mut store, &submit_job(y.states, y.line, 1), Reply::Unit);
-    replies(&rt, &mut store, &submit_job(y.states, y.line, 2), Reply::Unit);
+    replies(
+        &rt,
+        &mut store,
+        &submit_job(y.states, y.line, 1),
+        Reply::Unit,
+    );
+    replies(
+        &rt,
+        &mut store,
+        &submit_job(y.states, y.line, 2),
+        Reply::Unit,
+    );
     replies(&rt, &mut store, &release_job(y.line, y.ready), Reply::Unit);
     waits(&rt, &mut store, &release_job(y.line, y.ready));
-    replies(&rt, &mut store, &start_job(y.ready, y.states), Reply::Value(1));
+    replies(
+        &rt,
+        &mut store,
+        &start_job(y.ready, y.states),
+        Reply::Value(1),
+    );
     replies(
         &rt,
         &mut store,
         &at(y.states, HashAct::Find(1)),
         Reply::Value(RUNNING),
     );
-    replies(&rt, &mut store, &cancel_job(y.states, y.end, 2), Reply::Unit);
+    replies(
+        &rt,
+        &mut store,
+        &cancel_job(y.states, y.end, 2),
+        Reply::Unit,
+    );
     replies(&rt, &mut store, &release_job(y.line, y.ready), Reply::Unit);
     replies(&rt, &mut store, &start_job(y.ready, y.states), Reply::Empty);
     waits(&rt, &mut store, &start_job(y.ready, y.states));
@@ -113,7 +168,12 @@ fn who_awaits_the_end_of_a_job_has_its_result(rt: HostRuntime) -> Result<(), Fai
         act: PromiseAct::Await,
     };
     waits(&rt, &mut store, &end);
-    replies(&rt, &mut store, &end_job(y.states, y.end, 7, 49), Reply::Unit);
+    replies(
+        &rt,
+        &mut store,
+        &end_job(y.states, y.end, 7, 49),
+        Reply::Unit,
+    );
     replies(&rt, &mut store, &end, Reply::Value(49));
     replies(
         &rt,
