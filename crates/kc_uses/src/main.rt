@@ -1,5 +1,5 @@
-//! The library in use, as one program that grows: a little server of jobs. README quotes it; the gate proves it, runs
-//! it, and compares what it prints.
+//! The library in use, as one program that grows: a little server of jobs. README and the tour quote it; the gate proves
+//! it, runs it, and compares what it prints.
 #![tactic(auto)]
 
 ghost use Rattle.std.specs.Prelude.{◌≡◌, ◌≤◌, ⊤, IfOk, length};
@@ -8,35 +8,35 @@ ghost use Rattle.kc_term.specs.Fit.{AreFit};
 ghost use Rattle.kc_term.specs.Tree.{first, op, operations};
 ghost use Rattle.kc_uses.specs.Serving.{HasServer};
 
-mod finish_job;
-mod finish_or_stop;
+mod finish;
 mod server;
 mod shared;
+mod stop;
 mod told;
 
-use finish_job::FinishJob;
+use finish::finish_job;
 use kc_cache::{CacheAct, CacheOp};
 use kc_loc::LocOp;
 use kc_model::{Footprint, PlainStore};
 use kc_queue::{Queue, QueueAct, QueueOp, touches_its_own_cells as each_replies_one_item};
 use kc_term::Term;
 use kc_xt::{Transact, Tried, commit};
-use server::Server;
+use server::{Server, lay_server, open};
 use shared::serve;
 use std::alloc::Global;
 use std::io;
 use told::tell;
 
 fn main(rt: HostRuntime) -> io::Result<()> {
-    let server = Server::new();
-    let mut store = server.open(rt.alloc())?;
+    let (server, layout) = lay_server(rt.alloc())?;
+    let mut store = open(rt.alloc(), &layout)?;
     count_a_request(&rt, &server, &mut store)?;
     queue_a_job(&rt, &server, &mut store)?;
     finish_a_job(&rt, &server, &mut store)?;
     read_a_result(&rt, &server, &mut store)?;
     wait_for_a_job(&rt, &server, &mut store)?;
     take_the_first_job(&rt, rt.alloc(), &server, &mut store)?;
-    serve(&rt, rt.alloc(), &server)?;
+    serve(&rt, rt.alloc(), &server, &layout)?;
     tell(&rt, rt.alloc())
 }
 
@@ -84,7 +84,7 @@ fn finish_a_job(rt: &impl Print, server: &Server, store: &mut PlainStore) -> io:
     requires { HasServer server.now (length store.old) }
     ensures { length store.new ≡ length store.old }
 {
-    run(rt, "a job is finished", store, &FinishJob::new(server))
+    run(rt, "a job is finished", store, &finish_job(server))
 }
 
 fn read_a_result(rt: &impl Print, server: &Server, store: &mut PlainStore) -> io::Result<()>
@@ -104,7 +104,7 @@ fn wait_for_a_job(rt: &impl Print, server: &Server, store: &mut PlainStore) -> i
     ensures { length store.new ≡ length store.old }
 {
     let mut footprint = Footprint::new();
-    let tried = commit(store, &FinishJob::new(server), &mut footprint);
+    let tried = commit(store, &finish_job(server), &mut footprint);
     println!(rt; "no job waits: {tried:?}")?;
     for read in footprint.reads.as_slice() {
         println!(rt; "try again when location {} changes", read.loc.0)?;

@@ -1,13 +1,14 @@
 //! What the server keeps, and where.
 
-ghost use Rattle.std.specs.Prelude.{◌≡◌, ◌<◌, IfOk, length};
-ghost use Rattle.kc_uses.specs.Serving.{HasServer, IsServer};
+ghost use Rattle.std.specs.Prelude.{◌≡◌, IfOk, length};
+ghost use Rattle.kc_uses.specs.Serving.{HasServer};
 
 use kc_cache::Cache;
+use kc_lay::Layout;
 use kc_model::{Loc, PlainStore};
 use kc_queue::Queue;
 use kc_store::{Caller, Store};
-use std::alloc::Global;
+use std::alloc::{AllocError, Global};
 use std::io;
 
 /// How many requests came, the jobs that wait, urgent ones apart, the results of the jobs asked for last, and whether the
@@ -21,71 +22,47 @@ pub struct Server {
     pub closed: Loc,
 }
 
-/// How many locations that takes.
-pub const CELLS: u32 = 140;
+/// A server with room for 8 jobs, 4 urgent ones and 16 results, and the layout in which it lies.
+pub fn lay_server(alloc: Global) -> Result<(Server, Layout), AllocError>
+    ensures lies { IfOk result (λ t. HasServer t.0 (length t.1)) }
+    ensures jobs { IfOk result (λ t. t.0.jobs.cap ≡ 8) }
+    ensures urgent { IfOk result (λ t. t.0.urgent.cap ≡ 4) }
+    ensures results { IfOk result (λ t. (t.0.results.buckets ≡ 4) × (t.0.results.cap ≡ 16)) }
+{
+    let mut layout = Layout::new(alloc);
+    let requests = layout.loc(0)?;
+    let jobs = layout.queue(8)?;
+    let urgent = layout.queue(4)?;
+    let results = layout.cache(4, 16)?;
+    let closed = layout.loc(0)?;
+    let server = Server {
+        requests,
+        jobs,
+        urgent,
+        results,
+        closed,
+    };
+    Ok((server, layout))
+}
 
-impl Server {
-    /// A server with room for 8 jobs, 4 urgent ones and 16 results.
-    pub fn new() -> Server
-        ensures { IsServer result }
-    {
-        Server {
-            requests: Loc(0),
-            jobs: Queue::layout(Loc(1), 8),
-            urgent: Queue::layout(Loc(11), 4),
-            results: Cache::layout(Loc(17), 4, 16),
-            closed: Loc(139),
-        }
-    }
+/// A store that opens as it was laid out.
+pub fn open(alloc: Global, layout: &Layout) -> io::Result<PlainStore>
+    ensures { IfOk result (λ store. length store ≡ length layout.now) }
+{
+    PlainStore::open(alloc, layout.values()).map_err(|_| io::ErrorKind::OutOfMemory.into())
+}
 
-    /// A store with nothing in it.
-    pub fn open(&self, alloc: Global) -> io::Result<PlainStore>
-        requires { IsServer self.now }
-        ensures { IfOk result (λ store. HasServer self.now (length store)) }
-    {
-        let values = self.values(alloc)?;
-        PlainStore::open(alloc, &values).map_err(|_| io::ErrorKind::OutOfMemory.into())
-    }
-
-    /// A store with nothing in it that threads share without a lock, for two callers.
-    pub fn share(&self, alloc: Global) -> io::Result<(Store, Caller, Caller)>
-        requires { IsServer self.now }
-        ensures server { IfOk result (λ t. HasServer self.now t.0.locations) }
-        ensures first { IfOk result (λ t. t.1.of ≡ t.0) }
-        ensures second { IfOk result (λ t. t.2.of ≡ t.0) }
-    {
-        let values = self.values(alloc)?;
-        let Ok((store, mut callers)) = Store::open(alloc, &values, 2) else {
-            return Err(io::ErrorKind::OutOfMemory.into());
-        };
-        let (Some(second), Some(first)) = (callers.pop(), callers.pop()) else {
-            unreachable!("a store has as many callers as it was opened for");
-        };
-        Ok((store, first, second))
-    }
-
-    // What all its locations open with.
-    fn values(&self, alloc: Global) -> io::Result<Vec<u32>>
-        requires { IsServer self.now }
-        ensures { IfOk result (λ values. length values.items ≡ CELLS) }
-    {
-        let mut values = Vec::new(alloc);
-        for i in 0..CELLS {
-            values.push(self.opening(i))?;
-        }
-        Ok(values)
-    }
-
-    // What each location opens with.
-    fn opening(&self, i: u32) -> u32
-        requires server { IsServer self.now }
-        requires within { i < CELLS }
-    {
-        match i {
-            0 | 139 => 0,
-            1..11 => self.jobs.opening(i - 1),
-            11..17 => self.urgent.opening(i - 11),
-            _ => self.results.opening(i - 17),
-        }
-    }
+/// The same as a store that threads share without a lock, for two callers.
+pub fn share(alloc: Global, layout: &Layout) -> io::Result<(Store, Caller, Caller)>
+    ensures locations { IfOk result (λ t. t.0.locations ≡ length layout.now) }
+    ensures first { IfOk result (λ t. t.1.of ≡ t.0) }
+    ensures second { IfOk result (λ t. t.2.of ≡ t.0) }
+{
+    let Ok((store, mut callers)) = Store::open(alloc, layout.values(), 2) else {
+        return Err(io::ErrorKind::OutOfMemory.into());
+    };
+    let (Some(second), Some(first)) = (callers.pop(), callers.pop()) else {
+        unreachable!("a store has as many callers as it was opened for");
+    };
+    Ok((store, first, second))
 }

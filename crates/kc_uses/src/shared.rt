@@ -1,13 +1,14 @@
 //! The same server on a store that threads share without a lock: a worker, and a client.
 
-ghost use Rattle.std.specs.Prelude.{◌≡◌, ◌≤◌};
-ghost use Rattle.kc_uses.specs.Serving.{HasServer, IsServer};
+ghost use Rattle.std.specs.Prelude.{◌≡◌, ◌≤◌, length};
+ghost use Rattle.kc_uses.specs.Serving.{HasServer};
 
-use crate::finish_job::FinishJob;
-use crate::finish_or_stop::FinishOrStop;
-use crate::server::Server;
+use crate::finish::finish_job;
+use crate::server::{Server, share};
+use crate::stop::finish_or_stop;
 use kc_await::commit_waiting;
 use kc_cache::{CacheAct, CacheOp};
+use kc_lay::Layout;
 use kc_loc::LocOp;
 use kc_model::Reply;
 use kc_queue::{QueueAct, QueueOp};
@@ -28,10 +29,11 @@ pub fn serve<R: Print + Threads + Wait + Sync>(
     rt: &R,
     alloc: Global,
     server: &Server,
+    layout: &Layout,
 ) -> io::Result<()>
-    requires { IsServer server.now }
+    requires { HasServer server.now (length layout.now) }
 {
-    let (store, worker, client) = server.share(alloc)?;
+    let (store, worker, client) = share(alloc, layout)?;
     let shared = &store;
     let (mut worker, mut client) = thread::join(
         rt,
@@ -51,7 +53,7 @@ pub fn serve<R: Print + Threads + Wait + Sync>(
         move || wait_for_more(rt, shared, worker, server),
         move || close(rt, shared, client, server),
     );
-    let reply = run(rt, &store, &mut worker, &FinishOrStop::new(server));
+    let reply = run(rt, &store, &mut worker, &finish_or_stop(server));
     println!(rt; "once the server is closed: {reply:?}")
 }
 
@@ -61,7 +63,7 @@ fn wait_for_more<R: Wait>(rt: &R, store: &Store, mut worker: Caller, server: &Se
     requires server { HasServer server.now store.now.locations }
     ensures { result.of ≡ store.now }
 {
-    run(rt, store, &mut worker, &FinishOrStop::new(server));
+    run(rt, store, &mut worker, &finish_or_stop(server));
     worker
 }
 
@@ -81,7 +83,7 @@ fn work<R: Wait>(rt: &R, store: &Store, mut worker: Caller, server: &Server) -> 
     ensures { result.of ≡ store.now }
 {
     for _ in 0..JOBS {
-        run(rt, store, &mut worker, &FinishJob::new(server));
+        run(rt, store, &mut worker, &finish_job(server));
     }
     worker
 }
