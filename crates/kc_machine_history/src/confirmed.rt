@@ -16,7 +16,7 @@ pub fn confirmed_reads_stand()
     ensures { (o : Opening) (es : List Event) (p : ℕ) (f : Footprint) → IsSchedule o es → AreConfirmedSince o es p f → StandAtPlace o es p f }
 {}
 
-/// So some front of each later history makes them, which has all that was known at that moment, and at each earlier one. Of reads
+/// Some front of each later history makes reads that were confirmed, which has all that was known at that moment, and at each earlier one. Of reads
 /// that stood at a later moment the front is no shorter.
 pub fn confirmed_reads_have_a_front()
     ensures one { (o : Opening) (es more : List Event) (n p : ℕ) (f : Footprint) → IsSchedule o (es ++ more) → n ≤ p → p ≤ length es → StandAtPlace o es p f → HasFront (first_store o) (trace o (es ++ more)).history (history_at o es n) f }

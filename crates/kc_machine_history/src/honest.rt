@@ -42,7 +42,7 @@ pub fn failures_have_a_cause()
     ensures { (o : Opening) (es : List Event) → IsSchedule o es → FailuresHaveACause o es }
 {}
 
-/// Likewise, where a swap was told that it failed, the history has an entry that put its location from its read's version.
+/// In an honest schedule, where a swap was told that it failed, the history has an entry that put its location from its read's version.
 pub fn swap_failures_have_a_cause()
     ensures { (o : Opening) (es : List Event) → IsSchedule o es → SwapFailuresHaveACause o es }
 {}

@@ -72,8 +72,8 @@ pub fn entries_differ()
     ensures { (o : Opening) (es : List Event) → IsSchedule o es → EntriesDiffer (trace o es).history }
 {}
 
-/// An entry comes to stand behind the beginning of its caller's task. So where the tasks are well made, a commit that was told
-/// Succeeded has its entry in the history, behind all that stood there when it began.
+/// A commit or a swap that was told Succeeded has its entry, behind all that stood there when it began, where tasks are well made;
+/// each entry comes to stand behind the beginning of its caller's task.
 pub fn successes_have_their_entry()
     ensures begun { (o : Opening) (es : List Event) (e : Event) (x : Placed) → Decision o es e x → began o es x.entry.caller ≤ x.place }
     ensures entries { (o : Opening) (es : List Event) → IsSchedule o es → SuccessesHaveTheirEntry o es }
@@ -97,7 +97,7 @@ pub fn histories_grow()
     ensures { (o : Opening) (es : List Event) → NothingLaterTouchesAlong o es → HistoriesGrow o es }
 {}
 
-/// There, what is known to the history stood at its location at some moment; and at one since any moment at which the version was no higher.
+/// Where nothing later touches what placed passes install, what is known to the history stood at its location at some moment; and at one since any moment at which the version was no higher.
 pub fn known_values_stood()
     ensures { (o : Opening) (es : List Event) → NothingLaterTouchesAlong o es → (r : Seen) (n : ℕ) → n ≤ length es → (ending_store (first_store o) (history_at o es n) r.loc.0).version ≤ r.version → IsKnown (first_store o) (trace o es).history r
         → (i : ℕ) × (n ≤ i) × (i ≤ length es) × (ending_store (first_store o) (history_at o es i) r.loc.0 ≡ seen_as_cell r) }

@@ -34,7 +34,7 @@ pub fn what_was_seen_in_a_run_is_sure()
     ensures never_fails { (o : Opening) (es more : List Event) → IsSchedule o (es ++ more) → IsHonest o (es ++ more) → SeenNeverFails o es more }
 {}
 
-/// So by so many events of seats that begin tasks, step and are halted, in whatever order and whoever stopped, an entry comes: behind
+/// By so many events of seats that begin tasks, step and are halted, in whatever order and whoever stopped, an entry comes: behind
 /// them the history has it, and it had not before. That each seat begins few other tasks is asked only as long as nothing enters.
 pub fn an_entry_comes()
     ensures { (o : Opening) (es more : List Event) → IsSchedule o (es ++ more) → IsHonest o (es ++ more) → AnEntryComes o es more }

@@ -33,7 +33,7 @@ pub fn views_stood()
     ensures earlier { (u v w : SeatView) (f : Footprint) → KeepsKnown u v → StoodForGood v f w → StoodForGood u f w }
 {}
 
-/// So in each history that goes on from what the seat knows a front makes the reads, behind all that the seat knew as it began; and of
+/// In each history that goes on from what the seat knows a front makes the reads, behind all that the seat knew as it began; and of
 /// two footprints, one behind the other, the later one's front is no shorter.
 pub fn views_stand_for_good()
     ensures one { (v w : SeatView) (f : Footprint) (es : List Event) → StoodForGood v f w → IsPrefix w.past es → IsMeant (opening_at_seat w) es → HasFront (first_store (opening_at_seat w)) (known (opening_at_seat w) es) (knows v) f }

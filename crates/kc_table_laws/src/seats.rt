@@ -56,7 +56,7 @@ pub fn loads_are_few()
     ensures { (v w : SeatView) (d : StepsTo v w) → w.loads ≤ v.loads + MOST_LOADS * count v w d }
 {}
 
-/// A look that was told what it saw knows it.
+/// A look that was told what it saw knows it, at a version no lower than its seat knew.
 pub fn looks_teach_their_seat()
     ensures { (v w : SeatView) (l : Loc) (r : Seen) → DoesTask v (task.Look l) w → w.seat.told ≡ Some (told.Seen r) → Saw v l r w }
 {}
@@ -110,7 +110,7 @@ pub fn halted_tasks_end()
     ensures { (v w : SeatView) → is_idle v.seat.work ≡ false → v.began ≡ false → is_halted v.seat ≡ true → Stepped v w → (is_idle w.seat.work ≡ true) ⊎ ((is_halted w.seat ≡ true) × (steps_left w.seat < steps_left v.seat)) }
 {}
 
-/// They are few from the halt on.
+/// A halted task has at most 838 steps left: 3 · `MOST` + 70.
 pub fn few_steps_are_left()
     ensures { (s : Seat) → steps_left s ≤ 3 * MOST + 70 }
 {}

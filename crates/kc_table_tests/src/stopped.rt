@@ -150,14 +150,26 @@ fn a_view_of_what_an_owner_left_stands_once_its_commit_has_helped(rt: HostRuntim
     let puts = [Some(7), Some(8)];
     let made = go(&rt, &table, &mut owner, Mode::All, &mine, &puts, 9);
     equal(&rt, made, 9);
-    // No plain word stands there, however often it is viewed.
-    for _ in 0..8 {
-        equal(&rt, see(&table, &mut viewer, Loc(0)), None);
-        steps(&table, &mut viewer, &[], STEPS);
-    }
+    // No plain word stands there, and a view doesn't help.
+    equal(&rt, see(&table, &mut viewer, Loc(0)), None);
+    steps(&table, &mut viewer, &[], STEPS);
+    equal(&rt, see(&table, &mut viewer, Loc(0)), None);
+    steps(&table, &mut viewer, &[], STEPS);
     let theirs = saw_both(&rt, &table, &mut viewer);
-    go(&rt, &table, &mut viewer, Mode::All, &theirs, &[None, None], STEPS);
+    go(
+        &rt,
+        &table,
+        &mut viewer,
+        Mode::All,
+        &theirs,
+        &[None, None],
+        STEPS,
+    );
     equal(&rt, viewer.told(), FAILED);
-    let seven = Seen { loc: Loc(0), version: 1, value: 7 };
+    let seven = Seen {
+        loc: Loc(0),
+        version: 1,
+        value: 7,
+    };
     equal(&rt, see(&table, &mut viewer, Loc(0)), Some(seven));
 }

@@ -31,8 +31,7 @@ pub fn keeps_well_formed()
     ensures own { (t : Texts) → DependsOnItsCells (Formed t) t.base.0 (texts_cells_end t) }
 {}
 
-/// An operation replies, and never waits. Wherever its footprint is found its reply says so of the cells; so at its place in a
-/// legal history.
+/// An operation's reply says what stood at its place in a legal history, as wherever its footprint is found; it never waits.
 pub fn replies_say_what_stood()
     ensures says { (t : Texts) (b : TextAct) (a : Answer) (f : Footprint) (s : Cells) → Answers (text_meaning (op t b)) a f → Finds f s → AnswerSays (ActSays t (values s) b) a }
     ensures never_waits { (t : Texts) (b : TextAct) (f : Footprint) → ¬ Waits (text_meaning (op t b)) f }

@@ -28,7 +28,7 @@ ghost use Rattle.kc_top.specs.Words.{bundle_name, command_of, picks_name, store_
 
 use kc_model::{Shelf, Sink, Source};
 
-/// Why reading failed. The source's count of faults rose, or with file names the shelf's; and then a shelf that is sure
+/// Where reading failed, a count of faults rose: the source's, or with file names the shelf's; and then a shelf that is sure
 /// lacks one of the names. Of files one is too long whose name is among the words: a bundle to be checked against, or
 /// else the text, each by its own limit; and so the texts, or else the picks.
 pub fn reading_fails_for_a_cause<S: Source, F: Shelf, K: Sink>()
