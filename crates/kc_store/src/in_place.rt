@@ -11,7 +11,7 @@ ghost use Rattle.kc_xt.specs.Commit.{tried_of};
 ghost use Rattle.kc_xt.specs.Meaning.{limited};
 
 use crate::store::{Caller, Store};
-use crate::trying::try_quietly;
+use crate::trying::try_by;
 use crate::verdict::{Fate, note_worn};
 use kc_model::Footprint;
 use kc_table::Wakes;
@@ -42,7 +42,7 @@ impl Store {
         ensures worn { caller.old.worn ≡ true → stays_worn (verdict_as result (tried_of trial.new.went trial.new.reply)) ≡ true }
         ensures notes { NotesWear caller.old (verdict_as result (tried_of trial.new.went trial.new.reply)) caller.new }
     {
-        let fate = try_quietly(
+        let fate = try_by(
             &self.table,
             self.most_steps,
             &mut caller.seat,

@@ -24,11 +24,32 @@ use kc_machine_words::Mode;
 use kc_model::{Footprint, Line, Seen};
 use kc_table::{KcSeat, KcTable, Wakes};
 
+/// What becomes of those whom the steps of a commit signal.
+pub(crate) trait Signalled {
+    /// Takes them over from a task that has ended.
+    fn take(&mut self, table: &KcTable, wakes: Wakes);
+}
+
+/// They are woken at once.
+#[derive(Drop)]
+pub(crate) struct Woken;
+
+impl Signalled for Woken {
+    fn take(&mut self, table: &KcTable, wakes: Wakes) {
+        table.wake(wakes);
+    }
+}
+
+/// They are noted.
+impl Signalled for Wakes {
+    fn take(&mut self, _table: &KcTable, wakes: Wakes) {
+        self.add(wakes);
+    }
+}
+
 /// Ends the task that runs: by as many steps as are left, and then by a halt. It notes whom they signal: a look
 /// signals nobody.
-#[cold]
-#[inline(never)]
-pub(crate) fn end_task(table: &KcTable, seat: &mut KcSeat, budget: Budget, wakes: &mut Wakes)
+fn end_task(table: &KcTable, seat: &mut KcSeat, budget: Budget, wakes: &mut Wakes)
     requires table { seat.old.of ≡ table.now }
     requires busy { is_idle seat.old.seat.work ≡ false }
     requires shown { seat.old.began ≡ false }
@@ -45,6 +66,45 @@ pub(crate) fn end_task(table: &KcTable, seat: &mut KcSeat, budget: Budget, wakes
         seat.halt();
         step_to_the_end(table, seat, wakes);
     }
+}
+
+/// Ends the look that runs, as `end_task`; it signals nobody. Here lies the local for whom a task signals: one of each look's own
+/// would be written at each look.
+#[cold]
+#[inline(never)]
+pub(crate) fn end_look(table: &KcTable, seat: &mut KcSeat, budget: Budget)
+    requires table { seat.old.of ≡ table.now }
+    requires busy { is_idle seat.old.seat.work ≡ false }
+    requires shown { seat.old.began ≡ false }
+    requires calm { was_halted seat.old.seat ≡ false }
+    requires halts { may_halt seat.old.seat.work ≡ true }
+    requires looks { is_looking seat.old.seat.work seat.old.seat.told ≡ true }
+    ensures runs { (v : SeatView) (t : Task) → Runs v t seat.old → MayRun v t seat.new }
+    ensures idle { is_idle seat.new.seat.work ≡ true }
+    ensures spent { seat.new.seat.told ≡ Some told.Halted → budget.most + steps_made seat.old ≤ steps_made seat.new + (seat.old.seat.made - budget.before) }
+{
+    let mut wakes = Wakes::none();
+    end_task(table, seat, budget, &mut wakes);
+    wakes.let_go();
+}
+
+/// Ends the commit or the swap that runs, as `end_task`. Here lies the local for whom its steps signal: a lock's instruction waits
+/// for each word that was written before it.
+#[cold]
+#[inline(never)]
+fn end_commit<S: Signalled>(table: &KcTable, seat: &mut KcSeat, budget: Budget, signalled: &mut S)
+    requires table { seat.old.of ≡ table.now }
+    requires busy { is_idle seat.old.seat.work ≡ false }
+    requires shown { seat.old.began ≡ false }
+    requires calm { was_halted seat.old.seat ≡ false }
+    requires halts { may_halt seat.old.seat.work ≡ true }
+    ensures runs { (v : SeatView) (t : Task) → Runs v t seat.old → MayRun v t seat.new }
+    ensures idle { is_idle seat.new.seat.work ≡ true }
+    ensures spent { seat.new.seat.told ≡ Some told.Halted → budget.most + steps_made seat.old ≤ steps_made seat.new + (seat.old.seat.made - budget.before) }
+{
+    let mut wakes = Wakes::none();
+    end_task(table, seat, budget, &mut wakes);
+    signalled.take(table, wakes);
 }
 
 // Steps until the task has ended, or none is left.
@@ -88,14 +148,14 @@ fn step_to_the_end(table: &KcTable, seat: &mut KcSeat, wakes: &mut Wakes)
 /// swap was crossed, in mode Light, and where that was crossed once more in mode All. Who was told that no life is left swaps
 /// no more.
 #[inline(always)]
-pub(crate) fn commit(
+pub(crate) fn commit<S: Signalled>(
     table: &KcTable,
     seat: &mut KcSeat,
     footprint: &Footprint,
     lines: &[Line],
     worn: bool,
     budget: Budget,
-    wakes: &mut Wakes,
+    signalled: &mut S,
 ) -> Told
     requires table { seat.old.of ≡ table.now }
     requires idle { is_idle seat.old.seat.work ≡ true }
@@ -108,12 +168,12 @@ pub(crate) fn commit(
     ensures worn { worn ≡ true → is_told_worn result ≡ true }
 {
     if let Some((seen, after)) = only_put(lines, worn) {
-        let told = swap(table, seat, seen, after, budget, wakes);
+        let told = swap(table, seat, seen, after, budget, signalled);
         if !is_crossed(told) {
             return told;
         }
     }
-    install(table, seat, footprint, lines, budget, wakes)
+    install(table, seat, footprint, lines, budget, signalled)
 }
 
 // The read and the value of the only line, where it puts and may be swapped.
@@ -142,13 +202,13 @@ fn only_put(lines: &[Line], worn: bool) -> Option<(Seen, u32)>
 
 // One swap.
 #[inline(always)]
-fn swap(
+fn swap<S: Signalled>(
     table: &KcTable,
     seat: &mut KcSeat,
     seen: Seen,
     after: u32,
     budget: Budget,
-    wakes: &mut Wakes,
+    signalled: &mut S,
 ) -> Told
     requires table { seat.old.of ≡ table.now }
     requires idle { is_idle seat.old.seat.work ≡ true }
@@ -163,20 +223,20 @@ fn swap(
     match table.swap(seat, seen, after) {
         Some(told) => told,
         None => {
-            end_task(table, seat, budget, wakes);
+            end_commit(table, seat, budget, signalled);
             answer_of(seat)
         }
     }
 }
 
 // In mode Light, and where that was crossed once more in mode All.
-fn install(
+fn install<S: Signalled>(
     table: &KcTable,
     seat: &mut KcSeat,
     footprint: &Footprint,
     lines: &[Line],
     budget: Budget,
-    wakes: &mut Wakes,
+    signalled: &mut S,
 ) -> Told
     requires table { seat.old.of ≡ table.now }
     requires idle { is_idle seat.old.seat.work ≡ true }
@@ -187,9 +247,17 @@ fn install(
     ensures all { AllInstalled footprint.now result seat.old budget seat.new }
     ensures worn { IsWornOut (opening_at_seat seat.old) seat.old.past → is_told_worn result ≡ true }
 {
-    let told = commit_in(table, seat, footprint, Mode::Light, lines, budget, wakes);
+    let told = commit_in(
+        table,
+        seat,
+        footprint,
+        Mode::Light,
+        lines,
+        budget,
+        signalled,
+    );
     if is_crossed(told) {
-        return commit_in(table, seat, footprint, Mode::All, lines, budget, wakes);
+        return commit_in(table, seat, footprint, Mode::All, lines, budget, signalled);
     }
     told
 }
@@ -201,14 +269,14 @@ fn is_crossed(told: Told) -> bool
 }
 
 // One commit, in one mode.
-fn commit_in(
+fn commit_in<S: Signalled>(
     table: &KcTable,
     seat: &mut KcSeat,
     footprint: &Footprint,
     mode: Mode,
     lines: &[Line],
     budget: Budget,
-    wakes: &mut Wakes,
+    signalled: &mut S,
 ) -> Told
     requires table { seat.old.of ≡ table.now }
     requires idle { is_idle seat.old.seat.work ≡ true }
@@ -224,7 +292,7 @@ fn commit_in(
     }
     table.commit(seat, footprint, mode, lines);
     if seat.busy() {
-        end_task(table, seat, budget, wakes);
+        end_commit(table, seat, budget, signalled);
         return answer_of(seat);
     }
     answer_of(seat)

@@ -22,10 +22,10 @@ use crate::budget::Budget;
 use crate::committing::{FIRST_PAUSES, MOST_PAUSES};
 use crate::looks::{look_and_run, seen_by};
 use crate::store::{Caller, Store};
-use crate::tasks::end_task;
+use crate::tasks::end_look;
 use crate::verdict::Answered;
 use kc_model::{Footprint, Reply, Seen};
-use kc_table::{KcSeat, KcTable, Wakes};
+use kc_table::{KcSeat, KcTable};
 use kc_xt::{Room, Transact, Trial, Went, rest};
 use std::sync::Wait;
 
@@ -290,9 +290,7 @@ fn confirms(table: &KcTable, seat: &mut KcSeat, seen: Seen, budget: Budget) -> b
     if let Some(now) = table.look(seat, seen.loc) {
         return now.version == seen.version;
     }
-    let mut wakes = Wakes::none();
-    end_task(table, seat, budget, &mut wakes);
-    wakes.let_go();
+    end_look(table, seat, budget);
     let _ = seen_by(seat.told());
     false
 }

@@ -167,7 +167,8 @@ fn gather<S: HoldsSeat>(words: &mut Words, seats: Vec<S>) -> Token
     for holder in seats {
         let seat = holder.into_seat();
         let KcSeat {
-            apart: _,
+            before: _,
+            behind: _,
             machine: _,
             token,
             began: _,

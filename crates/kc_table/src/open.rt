@@ -38,7 +38,8 @@ pub(crate) fn deal_seats(
             machine: Seat::new(number, 3 * callers + 1, 3 * number),
             token,
             began: false,
-            apart: CachePadded::new(()),
+            before: CachePadded::new(()),
+            behind: CachePadded::new(()),
         })?;
     }
     Ok(seats)

@@ -20,13 +20,14 @@ use std::marker::Model;
 #[derive(Drop)]
 #[repr(C)]
 pub struct KcSeat {
-    // Seats lie side by side in a vector, and each is written at every step: two threads' on one line of a cache took
-    // twice the time of a commit.
-    pub(crate) apart: CachePadded<()>,
+    // A seat is written at every step: where its first or its last words lay on one line of a cache with another thread's, a commit
+    // took up to twice the time.
+    pub(crate) before: CachePadded<()>,
     pub(crate) machine: Seat,
     pub(crate) token: Token,
     // No word shows yet what has begun since the last step.
     pub(crate) began: bool,
+    pub(crate) behind: CachePadded<()>,
 }
 
 impl Model for KcSeat {

@@ -1,6 +1,6 @@
 //! Whom steps have signalled.
 
-ghost use Rattle.std.specs.Prelude.{◌≡◌};
+ghost use Rattle.std.specs.Prelude.{◌≡◌, bit_or};
 ghost use Rattle.kc_table_moves.specs.Signals.{with_signalled};
 
 use kc_machine::bit_of;
@@ -38,6 +38,13 @@ impl Wakes {
         if let Access::Signal(caller, true) = access {
             self.bits |= bit_of(caller);
         }
+    }
+
+    /// Those too.
+    pub fn add(&mut self, more: Wakes)
+        ensures { self.new ≡ bit_or self.old more }
+    {
+        self.bits |= more.bits();
     }
 
     /// Lets go of it, where nobody was signalled.

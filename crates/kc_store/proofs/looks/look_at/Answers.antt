@@ -21,43 +21,43 @@ returns-in-Some-clause-look c =
     let r = runs (task.Look c.args.loc) c.args.seat.now c.look.new.seat refl c.requires.idle c.requires.within c.look.ensures.ran in
     is_look c.args.seat.now c.look.new.seat c.args.loc c.in-Some.seen c.requires.within r.does c.in-Some.ensures.some.1
 
-pub end_task-requires-clause-table : goal.end_task-requires-clause-table
-end_task-requires-clause-table c = (ran_same c.args.seat.now c.look.new.seat (task.Look c.args.loc) c.look.ensures.ran).0 ∙ c.requires.table
+pub end_look-requires-clause-table : goal.end_look-requires-clause-table
+end_look-requires-clause-table c = (ran_same c.args.seat.now c.look.new.seat (task.Look c.args.loc) c.look.ensures.ran).0 ∙ c.requires.table
 
-pub end_task-requires-clause-calm : goal.end_task-requires-clause-calm
-end_task-requires-clause-calm c = (free (task.Look c.args.loc) c.args.seat.now c.look.new.seat refl c.requires.idle c.requires.within c.look.ensures.ran).1
+pub end_look-requires-clause-calm : goal.end_look-requires-clause-calm
+end_look-requires-clause-calm c = (free (task.Look c.args.loc) c.args.seat.now c.look.new.seat refl c.requires.idle c.requires.within c.look.ensures.ran).1
 
-pub end_task-requires-clause-halts : goal.end_task-requires-clause-halts
-end_task-requires-clause-halts c = may_be_halted (task.Look c.args.loc) c.args.seat.now c.look.new.seat refl c.requires.idle c.requires.within c.look.ensures.ran c.in_default.ensures.none
+pub end_look-requires-clause-halts : goal.end_look-requires-clause-halts
+end_look-requires-clause-halts c = may_be_halted (task.Look c.args.loc) c.args.seat.now c.look.new.seat refl c.requires.idle c.requires.within c.look.ensures.ran c.in_default.ensures.none
 
-pub let_go-requires : goal.let_go-requires
-let_go-requires c =
+pub end_look-requires-clause-looks : goal.end_look-requires-clause-looks
+end_look-requires-clause-looks c =
     let r = runs (task.Look c.args.loc) c.args.seat.now c.look.new.seat refl c.requires.idle c.requires.within c.look.ensures.ran in
-    c.end_task.ensures.mute r.stands.in_task ∙ c.none-wakes.ensures
+    r.stands.in_task
 
 pub seen_by-requires : goal.seen_by-requires
 seen_by-requires c =
     let t = task.Look c.args.loc in
     let r = runs t c.args.seat.now c.look.new.seat refl c.requires.idle c.requires.within c.look.ensures.ran in
-    subst (λ x. is_told_looking x ≡ true) (sym c.told.ensures) (looking_told c.args.seat.now c.end_task.new.seat c.args.loc (c.end_task.ensures.runs c.args.seat.now t r) c.end_task.ensures.idle)
+    subst (λ x. is_told_looking x ≡ true) (sym c.told.ensures) (looking_told c.args.seat.now c.end_look.new.seat c.args.loc (c.end_look.ensures.runs c.args.seat.now t r) c.end_look.ensures.idle)
 
 pub returns-clause-looks : goal.returns-clause-looks
 returns-clause-looks c =
     let t = task.Look c.args.loc in
-    let e = c.end_task.ensures in
+    let e = c.end_look.ensures in
     inl (
       sym c.has_steps.ensures ∙ c.if-not-has_steps.false,
       ends_late t c.args.seat.now c.look.new.seat refl c.requires.idle c.requires.within c.look.ensures.ran
-          c.end_task.new.seat (peek_told c.seen_by.result) c.args.budget (e.runs c.args.seat.now t) e.idle e.spent (sym c.told.ensures ∙ c.seen_by.ensures),
+          c.end_look.new.seat (peek_told c.seen_by.result) c.args.budget (e.runs c.args.seat.now t) e.idle e.spent (sym c.told.ensures ∙ c.seen_by.ensures),
     )
 
 pub returns-clause-look : goal.returns-clause-look
 returns-clause-look c =
     let t = task.Look c.args.loc in
-    let e = c.end_task.ensures in
-    look_of_ends c.args.seat.now c.end_task.new.seat c.args.loc c.args.budget c.seen_by.result c.requires.within
+    let e = c.end_look.ensures in
+    look_of_ends c.args.seat.now c.end_look.new.seat c.args.loc c.args.budget c.seen_by.result c.requires.within
     (inl (
       sym c.has_steps.ensures ∙ c.if-not-has_steps.false,
       ends_late t c.args.seat.now c.look.new.seat refl c.requires.idle c.requires.within c.look.ensures.ran
-          c.end_task.new.seat (peek_told c.seen_by.result) c.args.budget (e.runs c.args.seat.now t) e.idle e.spent (sym c.told.ensures ∙ c.seen_by.ensures),
+          c.end_look.new.seat (peek_told c.seen_by.result) c.args.budget (e.runs c.args.seat.now t) e.idle e.spent (sym c.told.ensures ∙ c.seen_by.ensures),
     ))

@@ -15,19 +15,19 @@ use Rattle.kc_store.proofs.tasks.commit.Goals as goal
 use Rattle.kc_store.proofs.tasks.commit.Goals.{in-Some+else-not-is_crossed, in_default}
 
 pub swap-told-requires-clause-made : goal.swap-told-requires-clause-made
-swap-told-requires-clause-made c =
+swap-told-requires-clause-made g c =
     made_swap c.args.footprint.now c.args.lines.now c.in-Some.seen c.in-Some.after c.requires.made.0 c.requires.lines c.in-Some.ensures.some.0 c.args.seat.now.of.origin.locations c.requires.made.1
 
 pub returns-then-not-is_crossed-clause-all : goal.returns-then-not-is_crossed-clause-all
-returns-then-not-is_crossed-clause-all c =
+returns-then-not-is_crossed-clause-all g c =
     committed_swapped c.args.footprint.now c.in-Some.seen c.in-Some.after c.swap-told.result c.args.seat.now c.args.budget c.swap-told.new.seat c.requires.idle
     (is_put c.args.footprint.now c.args.lines.now c.in-Some.seen c.in-Some.after c.requires.made.0 c.requires.lines c.in-Some.ensures.some.0) c.swap-told.ensures.ends c.swap-told.ensures.swapping (sym c.is_crossed.ensures ∙ c.if-not-is_crossed.true)
 
 pub returns-then-not-is_crossed-clause-worn : goal.returns-then-not-is_crossed-clause-worn
-returns-then-not-is_crossed-clause-worn c = λ worn. let z : true ≡ false = sym worn ∙ c.in-Some.ensures.some.1 in absurd (cc)
+returns-then-not-is_crossed-clause-worn g c = λ worn. let z : true ≡ false = sym worn ∙ c.in-Some.ensures.some.1 in absurd (cc)
 
 pub install-requires-clause-table : goal.install-requires-clause-table
-install-requires-clause-table c = elim c.match-only_put.branch [
+install-requires-clause-table g c = elim c.match-only_put.branch [
   | in-Some+else-not-is_crossed w ↦
       let k = ended_keeps c.args.seat.now c.args.budget (task.Swap w.in-Some.seen w.in-Some.after) w.swap-told.result w.swap-told.new.seat w.swap-told.ensures.ends in
       subst (λ (z : SeatView). z.of ≡ c.args.table.now) (sym w.seat-is) (k.of ∙ c.requires.table)
@@ -35,7 +35,7 @@ install-requires-clause-table c = elim c.match-only_put.branch [
 ]
 
 pub install-requires-clause-idle : goal.install-requires-clause-idle
-install-requires-clause-idle c = elim c.match-only_put.branch [
+install-requires-clause-idle g c = elim c.match-only_put.branch [
   | in-Some+else-not-is_crossed w ↦
       let a = ends_advance c.args.seat.now c.args.budget (task.Swap w.in-Some.seen w.in-Some.after) w.swap-told.result w.swap-told.new.seat c.requires.idle w.swap-told.ensures.ends in
       subst (λ (z : SeatView). is_idle z.seat.work ≡ true) (sym w.seat-is) a.idle
@@ -43,7 +43,7 @@ install-requires-clause-idle c = elim c.match-only_put.branch [
 ]
 
 pub install-requires-clause-made : goal.install-requires-clause-made
-install-requires-clause-made c =
+install-requires-clause-made g c =
     let f = c.args.footprint.now in (
       c.requires.made.0,
       elim c.match-only_put.branch [
@@ -55,7 +55,7 @@ install-requires-clause-made c =
     )
 
 pub install-requires-clause-known : goal.install-requires-clause-known
-install-requires-clause-known c = elim c.match-only_put.branch [
+install-requires-clause-known g c = elim c.match-only_put.branch [
   | in-Some+else-not-is_crossed w ↦
       let k = ended_keeps c.args.seat.now c.args.budget (task.Swap w.in-Some.seen w.in-Some.after) w.swap-told.result w.swap-told.new.seat w.swap-told.ensures.ends in
       λ r x. subst (λ (z : SeatView). IsKnown (first_store (opening_at_seat z)) (knows z) r) (sym w.seat-is) (k.reads r (c.requires.known r x))
@@ -63,7 +63,7 @@ install-requires-clause-known c = elim c.match-only_put.branch [
 ]
 
 pub returns-clause-all : goal.returns-clause-all
-returns-clause-all c = elim c.match-only_put.branch [
+returns-clause-all g c = elim c.match-only_put.branch [
   | in-Some+else-not-is_crossed w ↦
       committed_crossed c.args.footprint.now w.in-Some.seen w.in-Some.after w.swap-told.result c.install.result c.args.seat.now c.args.budget w.swap-told.new.seat c.install.new.seat c.requires.idle
       (is_put c.args.footprint.now c.args.lines.now w.in-Some.seen w.in-Some.after c.requires.made.0 c.requires.lines w.in-Some.ensures.some.0) w.swap-told.ensures.ends (sym w.is_crossed.ensures ∙ w.if-not-is_crossed.false)
@@ -74,7 +74,7 @@ returns-clause-all c = elim c.match-only_put.branch [
 ]
 
 pub returns-clause-worn : goal.returns-clause-worn
-returns-clause-worn c = λ worn. elim c.match-only_put.branch [
+returns-clause-worn g c = λ worn. elim c.match-only_put.branch [
   | in-Some+else-not-is_crossed w ↦ let z : true ≡ false = sym worn ∙ w.in-Some.ensures.some.1 in absurd (cc)
   | in_default w ↦ c.install.ensures.worn (subst (λ (z : SeatView). IsWornOut (opening_at_seat z) z.past) (sym w.seat-is) (c.requires.worn worn))
 ]

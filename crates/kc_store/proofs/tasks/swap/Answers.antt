@@ -6,46 +6,46 @@ use Rattle.kc_store.specs.Works.{is_told_swapping}
 use Rattle.kc_hang.proofs.kc_table_laws.Running.{ran_same}
 use Rattle.kc_store.proofs.tasks.swap.Goals as goal
 
-pub end_task-requires-clause-table : goal.end_task-requires-clause-table
-end_task-requires-clause-table c = (ran_same c.args.seat.now c.swap.new.seat (task.Swap c.args.seen c.args.after) c.swap.ensures.ran).0 ∙ c.requires.table
+pub end_commit-requires-clause-table : goal.end_commit-requires-clause-table
+end_commit-requires-clause-table g c = (ran_same c.args.seat.now c.swap.new.seat (task.Swap c.args.seen c.args.after) c.swap.ensures.ran).0 ∙ c.requires.table
 
-pub end_task-requires-clause-busy : goal.end_task-requires-clause-busy
-end_task-requires-clause-busy c = owing_busy c.swap.new.seat.seat c.in-None.ensures.owes
+pub end_commit-requires-clause-busy : goal.end_commit-requires-clause-busy
+end_commit-requires-clause-busy g c = owing_busy c.swap.new.seat.seat c.in-None.ensures.owes
 
-pub end_task-requires-clause-calm : goal.end_task-requires-clause-calm
-end_task-requires-clause-calm c = (free (task.Swap c.args.seen c.args.after) c.args.seat.now c.swap.new.seat refl c.requires.idle c.requires.made c.swap.ensures.ran).1
+pub end_commit-requires-clause-calm : goal.end_commit-requires-clause-calm
+end_commit-requires-clause-calm g c = (free (task.Swap c.args.seen c.args.after) c.args.seat.now c.swap.new.seat refl c.requires.idle c.requires.made c.swap.ensures.ran).1
 
-pub end_task-requires-clause-halts : goal.end_task-requires-clause-halts
-end_task-requires-clause-halts c = may_be_halted (task.Swap c.args.seen c.args.after) c.args.seat.now c.swap.new.seat refl c.requires.idle c.requires.made c.swap.ensures.ran (owing_busy c.swap.new.seat.seat c.in-None.ensures.owes)
+pub end_commit-requires-clause-halts : goal.end_commit-requires-clause-halts
+end_commit-requires-clause-halts g c = may_be_halted (task.Swap c.args.seen c.args.after) c.args.seat.now c.swap.new.seat refl c.requires.idle c.requires.made c.swap.ensures.ran (owing_busy c.swap.new.seat.seat c.in-None.ensures.owes)
 
 pub answer_of-requires : goal.answer_of-requires
-answer_of-requires c =
+answer_of-requires g c =
     let t = task.Swap c.args.seen c.args.after in
     let r = runs t c.args.seat.now c.swap.new.seat refl c.requires.idle c.requires.made c.swap.ensures.ran in
-    told_commits c.end_task.new.seat.seat.told (swapping_told c.args.seat.now c.end_task.new.seat c.args.seen c.args.after (c.end_task.ensures.runs c.args.seat.now t r).stands c.end_task.ensures.idle)
+    told_commits c.end_commit.new.seat.seat.told (swapping_told c.args.seat.now c.end_commit.new.seat c.args.seen c.args.after (c.end_commit.ensures.runs c.args.seat.now t r).stands c.end_commit.ensures.idle)
 
 pub returns-then-not-has_steps-clause-ends : goal.returns-then-not-has_steps-clause-ends
-returns-then-not-has_steps-clause-ends c = inr (sym c.has_steps.ensures ∙ c.if-not-has_steps.true, refl, refl)
+returns-then-not-has_steps-clause-ends g c = inr (sym c.has_steps.ensures ∙ c.if-not-has_steps.true, refl, refl)
 
 pub returns-in-None-clause-ends : goal.returns-in-None-clause-ends
-returns-in-None-clause-ends c =
+returns-in-None-clause-ends g c =
     let t = task.Swap c.args.seen c.args.after in
-    let e = c.end_task.ensures in
+    let e = c.end_commit.ensures in
     inl (
       sym c.has_steps.ensures ∙ c.if-not-has_steps.false,
       ends_late t c.args.seat.now c.swap.new.seat refl c.requires.idle c.requires.made c.swap.ensures.ran
-          c.end_task.new.seat c.answer_of.result c.args.budget (e.runs c.args.seat.now t) e.idle e.spent c.answer_of.ensures,
+          c.end_commit.new.seat c.answer_of.result c.args.budget (e.runs c.args.seat.now t) e.idle e.spent c.answer_of.ensures,
     )
 
 pub returns-in-None-clause-swapping : goal.returns-in-None-clause-swapping
-returns-in-None-clause-swapping c =
+returns-in-None-clause-swapping g c =
     let t = task.Swap c.args.seen c.args.after in
     let r = runs t c.args.seat.now c.swap.new.seat refl c.requires.idle c.requires.made c.swap.ensures.ran in
     subst (λ x. is_told_swapping x ≡ true) c.answer_of.ensures
-    (swapping_told c.args.seat.now c.end_task.new.seat c.args.seen c.args.after (c.end_task.ensures.runs c.args.seat.now t r).stands c.end_task.ensures.idle)
+    (swapping_told c.args.seat.now c.end_commit.new.seat c.args.seen c.args.after (c.end_commit.ensures.runs c.args.seat.now t r).stands c.end_commit.ensures.idle)
 
 pub returns-in-Some-clause-ends : goal.returns-in-Some-clause-ends
-returns-in-Some-clause-ends c =
+returns-in-Some-clause-ends g c =
     let t = task.Swap c.args.seen c.args.after in
     inl (
       sym c.has_steps.ensures ∙ c.if-not-has_steps.false,
@@ -53,7 +53,7 @@ returns-in-Some-clause-ends c =
     )
 
 pub returns-in-Some-clause-swapping : goal.returns-in-Some-clause-swapping
-returns-in-Some-clause-swapping c =
+returns-in-Some-clause-swapping g c =
     let t = task.Swap c.args.seen c.args.after in
     let r = runs t c.args.seat.now c.swap.new.seat refl c.requires.idle c.requires.made c.swap.ensures.ran in
     subst (λ x. is_told_swapping x ≡ true) c.in-Some.ensures.told.1

@@ -13,8 +13,8 @@ use Rattle.kc_hang.specs.kc_table_laws.Tasks.{KeepsKnown}
 use Rattle.kc_xt.specs.Commit.{tried_of}
 use Rattle.kc_store.proofs.store.Store.try_in_place.Goals as goal
 
-pub try_quietly-fate-requires : goal.try_quietly-fate-requires
-try_quietly-fate-requires g c =
+pub try_by-fate-requires : goal.try_by-fate-requires
+try_by-fate-requires g c =
     record {
       table = of_table c.caller.inside.worn c.deref_mut.result.now c.self.inside.table c.args.caller.now c.args.self.now (caller_of c.caller.inside.worn c.deref_mut.result.now c.caller.inside.seat.value c.args.caller.now c.deref_mut.ensures.value c.caller.view_is) c.self.view_is c.requires.caller;
       steps = c.self.invariant;
@@ -27,7 +27,7 @@ try_quietly-fate-requires g c =
 pub invariant_of-caller : goal.invariant_of-caller
 invariant_of-caller g c =
     let m = (limited (g.T.Transact.most c.args.transaction.now) (g.T.Transact.meaning c.args.transaction.now)) in
-    let x = c.try_quietly-fate in (
+    let x = c.try_by-fate in (
       rests_on c.deref_mut.result.now x.new.seat (rests_so c.deref_mut.result.now c.caller.inside.seat.value c.deref_mut.ensures.value c.caller.invariant.0) x.ensures.idle x.ensures.blocked,
       noted m x.result (tried_of x.new.trial.went x.new.trial.reply) c.deref_mut.result.now x.new.footprint x.new.seat c.caller.inside.worn c.note_worn.new.worn c.note_worn.ensures (worn_so c.caller.inside.worn c.deref_mut.result.now c.caller.inside.seat.value c.deref_mut.ensures.value c.caller.invariant.1) x.ensures.stays x.ensures.settles,
     )
@@ -35,23 +35,23 @@ invariant_of-caller g c =
 pub returns : goal.returns
 returns g c =
     let m = (limited (g.T.Transact.most c.args.transaction.now) (g.T.Transact.meaning c.args.transaction.now)) in
-    let f = c.try_quietly-fate.new.footprint in
+    let f = c.try_by-fate.new.footprint in
     let v = c.deref_mut.result.now in
-    let w = c.try_quietly-fate.new.seat in
-    let e = c.try_quietly-fate.ensures in
-    let t = tried_of c.try_quietly-fate.new.trial.went c.try_quietly-fate.new.trial.reply in
-    let a = verdict_as c.try_quietly-fate.result t in
+    let w = c.try_by-fate.new.seat in
+    let e = c.try_by-fate.ensures in
+    let t = tried_of c.try_by-fate.new.trial.went c.try_by-fate.new.trial.reply in
+    let a = verdict_as c.try_by-fate.result t in
     let old = c.caller.inside.worn in
     let new = c.note_worn.new.worn in
     let is = (caller_of c.caller.inside.worn c.deref_mut.result.now c.caller.inside.seat.value c.args.caller.now c.deref_mut.ensures.value c.caller.view_is) in
     let s : Settles m a v f w = e.settles in
     record {
-      told = subst (λ x. IsTold m a x f (caller_view new w)) is (told old new m a v f w (notes_as c.try_quietly-fate.result t a old new c.note_worn.ensures refl) s);
+      told = subst (λ x. IsTold m a x f (caller_view new w)) is (told old new m a v f w (notes_as c.try_by-fate.result t a old new c.note_worn.ensures refl) s);
       tries = subst (λ (x : CallerView). Tries m f x.seat w) is e.tries;
       settles = subst (λ (x : CallerView). Settles m a x.seat f w) is s;
       keeps = subst (λ (x : CallerView). KeepsKnown x.seat w) is e.keeps;
-      remembers = subst (λ x. Remembers x (caller_view new w)) is (remembers old new v w (still_told (is_worn_by c.try_quietly-fate.result) old new c.note_worn.ensures) e.keeps);
+      remembers = subst (λ x. Remembers x (caller_view new w)) is (remembers old new v w (still_told (is_worn_by c.try_by-fate.result) old new c.note_worn.ensures) e.keeps);
       within = e.within;
       worn = subst (λ (x : CallerView). x.worn ≡ true → stays_worn a ≡ true) is e.worn;
-      notes = subst (λ (x : CallerView). new ≡ (is_worn_pool a || x.worn)) is (notes_as c.try_quietly-fate.result t a old new c.note_worn.ensures refl);
+      notes = subst (λ (x : CallerView). new ≡ (is_worn_pool a || x.worn)) is (notes_as c.try_by-fate.result t a old new c.note_worn.ensures refl);
     }
