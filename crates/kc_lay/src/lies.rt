@@ -1,25 +1,13 @@
 //! What lies in cells.
 
-ghost use Rattle.std.specs.Prelude.{◌≡◌, ◌<◌, ℕ};
-ghost use Rattle.kc_cache.specs.Meaning.{cache_cells, cache_opening};
-ghost use Rattle.kc_grow.specs.Content.{grow_opening};
-ghost use Rattle.kc_grow.specs.Meaning.{grow_cells};
-ghost use Rattle.kc_cells.specs.Accumulator.{acc_opening};
-ghost use Rattle.kc_cells.specs.OnePlace.{place_cells, place_opening};
-ghost use Rattle.kc_hash.specs.Content.{hash_opening};
-ghost use Rattle.kc_hash.specs.Meaning.{hash_cells};
-ghost use Rattle.kc_queue.specs.Meaning.{queue_cells, queue_opening};
-ghost use Rattle.kc_stack.specs.Content.{stack_opening};
-ghost use Rattle.kc_stack.specs.Meaning.{stack_cells};
+ghost use Rattle.std.specs.Prelude.{◌≡◌, ◌<◌, ◌≤◌, ◌+◌, ℕ};
+ghost use Rattle.kc_model.specs.declared.plain_store.TheConstants.{MOST_LOCATIONS};
+ghost use Rattle.kc_xt.specs.Structure.{Opened};
 
-use kc_cache::Cache;
-use kc_cells::{Accumulator, Mvar, Promise};
-use kc_grow::Grow;
-use kc_hash::Hash;
-use kc_queue::Queue;
-use kc_stack::Stack;
+use kc_model::Loc;
 
-/// What lies in cells that follow one another: the location of the first, how many there are, and what each opens with.
+/// What lies in cells that follow one another: the location of the first, how many there are, what each opens with, and
+/// what they then stand for.
 pub trait Lies {
     /// The location of its first cell.
     ghost first: { Self → ℕ };
@@ -30,6 +18,13 @@ pub trait Lies {
     /// What each cell opens with, by its number within.
     ghost opens_with: { Self → ℕ → ℕ };
 
+    /// What holds of the values of a store in which its cells have just opened, such as that it is empty.
+    ghost is_open: { Self → (ℕ → ℕ) → Type 0 };
+
+    /// The location of its first cell.
+    fn begin(&self) -> Loc
+        ensures { result.0 ≡ first self.now };
+
     /// How many cells it has.
     fn count(&self) -> u32
         ensures { result ≡ cells self.now };
@@ -38,132 +33,27 @@ pub trait Lies {
     fn opens(&self, index: u32) -> u32
         requires { index < cells self.now }
         ensures { result ≡ opens_with self.now index };
+
+    /// So its cells stand once they have opened. It does nothing.
+    fn stands_open(&self)
+        ensures { (m : ℕ → ℕ) → Opened (first self.now) (cells self.now) (opens_with self.now) m → is_open self.now m };
 }
 
-impl Lies for Stack {
-    ghost first = { λ s. s.base.0 };
+/// What lies in cells wherever they begin, so that there can be several of a kind.
+pub trait Movable: Lies + Copy {
+    /// Its numbers are ones that it can be laid with.
+    ghost is_fit: { Self → Type 0 };
 
-    ghost cells = { stack_cells };
+    /// The second is as the first, but for its place.
+    ghost is_like: { Self → Self → Type 0 };
 
-    ghost opens_with = { stack_opening };
-
-    fn count(&self) -> u32 {
-        self.cells()
-    }
-
-    fn opens(&self, index: u32) -> u32 {
-        self.opening(index)
-    }
-}
-
-impl Lies for Queue {
-    ghost first = { λ q. q.base.0 };
-
-    ghost cells = { queue_cells };
-
-    ghost opens_with = { queue_opening };
-
-    fn count(&self) -> u32 {
-        self.cells()
-    }
-
-    fn opens(&self, index: u32) -> u32 {
-        self.opening(index)
-    }
-}
-
-impl Lies for Mvar {
-    ghost first = { λ x. x.base.0 };
-
-    ghost cells = { λ x. place_cells };
-
-    ghost opens_with = { λ x. place_opening };
-
-    fn count(&self) -> u32 {
-        self.cells()
-    }
-
-    fn opens(&self, index: u32) -> u32 {
-        self.opening(index)
-    }
-}
-
-impl Lies for Promise {
-    ghost first = { λ x. x.base.0 };
-
-    ghost cells = { λ x. place_cells };
-
-    ghost opens_with = { λ x. place_opening };
-
-    fn count(&self) -> u32 {
-        self.cells()
-    }
-
-    fn opens(&self, index: u32) -> u32 {
-        self.opening(index)
-    }
-}
-
-impl Lies for Accumulator {
-    ghost first = { λ x. x.base.0 };
-
-    ghost cells = { λ x. x.cells };
-
-    ghost opens_with = { acc_opening };
-
-    fn count(&self) -> u32 {
-        self.cells()
-    }
-
-    fn opens(&self, index: u32) -> u32 {
-        self.opening(index)
-    }
-}
-
-impl Lies for Hash {
-    ghost first = { λ h. h.base.0 };
-
-    ghost cells = { hash_cells };
-
-    ghost opens_with = { hash_opening };
-
-    fn count(&self) -> u32 {
-        self.cells()
-    }
-
-    fn opens(&self, index: u32) -> u32 {
-        self.opening(index)
-    }
-}
-
-impl Lies for Grow {
-    ghost first = { λ g. g.base.0 };
-
-    ghost cells = { grow_cells };
-
-    ghost opens_with = { grow_opening };
-
-    fn count(&self) -> u32 {
-        self.cells()
-    }
-
-    fn opens(&self, index: u32) -> u32 {
-        self.opening(index)
-    }
-}
-
-impl Lies for Cache {
-    ghost first = { λ c. c.base.0 };
-
-    ghost cells = { cache_cells };
-
-    ghost opens_with = { cache_opening };
-
-    fn count(&self) -> u32 {
-        self.cells()
-    }
-
-    fn opens(&self, index: u32) -> u32 {
-        self.opening(index)
-    }
+    /// The same at another place.
+    fn moved(&self, first: Loc) -> Self
+        requires fit { is_fit self.now }
+        requires room { first.0 + Self.cells self.now ≤ MOST_LOCATIONS }
+        ensures first { Self.first result ≡ first.0 }
+        ensures cells { Self.cells result ≡ Self.cells self.now }
+        ensures opens { (i : ℕ) → i < Self.cells self.now → Self.opens_with result i ≡ Self.opens_with self.now i }
+        ensures like { is_like self.now result }
+        ensures fit { is_fit result };
 }

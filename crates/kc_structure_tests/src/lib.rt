@@ -14,6 +14,8 @@ mod grow;
 #[cfg(test)]
 mod hash;
 #[cfg(test)]
+mod laying;
+#[cfg(test)]
 mod loc;
 #[cfg(test)]
 mod queue;
