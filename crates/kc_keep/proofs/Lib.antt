@@ -1,0 +1,5 @@
+pub mod Keeping
+pub mod Stepping
+pub mod Together
+pub mod Telling
+pub mod Seeing
