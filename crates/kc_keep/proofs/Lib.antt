@@ -1,5 +1,5 @@
 pub mod Keeping
-pub mod Stepping
+pub mod Steps
 pub mod Together
 pub mod Telling
 pub mod Seeing

@@ -1,3 +1,3 @@
 pub mod Only
 pub mod Keeping
-pub mod Stepping
+pub mod Steps

@@ -3,7 +3,7 @@
 ghost use Rattle.std.specs.Prelude.{◌≡◌, All, map};
 ghost use Rattle.kc_keep.specs.Keeping.{HoldsThroughout};
 ghost use Rattle.kc_keep.specs.Only.{HasOnly};
-ghost use Rattle.kc_keep.specs.Stepping.{IsTransitive, LastsThroughout, StepsThroughout};
+ghost use Rattle.kc_keep.specs.Steps.{IsTransitive, LastsThroughout, StepsThroughout};
 ghost use Rattle.kc_model.specs.Footprint.{IsBelow};
 ghost use Rattle.kc_store.specs.Backs.{AreAllCallers};
 ghost use Rattle.kc_store.specs.Knows.{IsHistory};

@@ -2,7 +2,7 @@
 
 ghost use Rattle.std.specs.Prelude.{ℕ};
 ghost use Rattle.kc_keep.specs.Keeping.{IsKeptBy};
-ghost use Rattle.kc_keep.specs.Stepping.{IsStepOf};
+ghost use Rattle.kc_keep.specs.Steps.{IsStepOf};
 ghost use Rattle.kc_xt.specs.Meaning.{Meaning};
 
 /// Something that holds of the values of a store, and the meanings of what is committed there.

@@ -3,7 +3,7 @@
 ghost use Rattle.std.specs.Prelude.{◌≡◌, ℕ, All, Contains, List, map};
 ghost use Rattle.kc_keep.specs.Keeping.{HoldsThroughout, IsSeenWhere};
 ghost use Rattle.kc_keep.specs.Only.{HasOnly, OfMeanings};
-ghost use Rattle.kc_keep.specs.Stepping.{IsTransitive, LastsThroughout, StepsThroughout};
+ghost use Rattle.kc_keep.specs.Steps.{IsTransitive, LastsThroughout, StepsThroughout};
 ghost use Rattle.kc_model.specs.Legal.{IsLegal};
 ghost use Rattle.kc_model.specs.Store.{Store as Cells};
 ghost use Rattle.kc_model.specs.declared.footprint.Entry.{Entry};

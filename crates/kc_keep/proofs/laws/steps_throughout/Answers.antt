@@ -1,4 +1,4 @@
-use Rattle.kc_keep.proofs.Stepping.{all_last, each_steps}
+use Rattle.kc_keep.proofs.Steps.{all_last, each_steps}
 use Rattle.kc_keep.proofs.Together.{of_store}
 use Rattle.kc_store.specs.Views.{last, store_opening}
 use Rattle.kc_keep.proofs.laws.steps_throughout.Goals as goal

@@ -4,7 +4,7 @@ use Rattle.std.proofs.lemmas.List.Elements.{All-head, All-tail}
 use Rattle.kc_keep.proofs.Keeping.{left_by, nothing_put, of_front, of_rest, one_keeps, says, stands}
 use Rattle.kc_keep.specs.Keeping.{IsKeptBy}
 use Rattle.kc_keep.specs.Only.{IsEntryOf, IsOf, IsOfOne, OfMeanings}
-use Rattle.kc_keep.specs.Stepping.{IsStepOf, IsTransitive, LastsThroughout, StepsThroughout}
+use Rattle.kc_keep.specs.Steps.{IsStepOf, IsTransitive, LastsThroughout, StepsThroughout}
 use Rattle.kc_model.specs.Legal.{IsLegal}
 use Rattle.kc_model.specs.Store.{Store, Finds, after}
 use Rattle.kc_model.specs.declared.footprint.Entry.{Entry}
