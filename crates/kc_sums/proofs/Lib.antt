@@ -1,0 +1,4 @@
+pub mod Sums
+pub mod Reads
+pub mod Opened
+pub mod Ones
