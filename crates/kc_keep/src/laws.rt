@@ -1,6 +1,6 @@
 //! What holds throughout a history. The laws do nothing: the contract is the law.
 
-ghost use Rattle.std.specs.Prelude.{◌≡◌, ℕ, All, Contains, List, map};
+ghost use Rattle.std.specs.Prelude.{◌≡◌, ℕ, [], All, Contains, List, map};
 ghost use Rattle.kc_keep.specs.Keeping.{HoldsThroughout, IsSeenWhere};
 ghost use Rattle.kc_keep.specs.Only.{HasOnly, OfMeanings};
 ghost use Rattle.kc_keep.specs.Steps.{IsTransitive, LastsThroughout, StepsThroughout};
@@ -40,11 +40,13 @@ pub fn steps_throughout<S: Stepping>(stepping: &S)
 }
 
 /// What a view saw stands behind a front of the one history, no older than all that its caller knew as the view began, and there
-/// the invariant holds: so it holds of what a view answers, which has no entry.
+/// the invariant holds: so it holds of what a view answers, which has no entry. What an entry of a caller's own read stands at
+/// the entry's place, where the invariant holds.
 ///
 /// The caller was c as the view began and d as it ended, and came back as e.
 pub fn views_see_it_hold<I: Invariant>(invariant: &I)
-    ensures { (z : StoreView) (callers : List CallerView) (p : PastView) (c d e : CallerView) (f : Footprint) → HoldsThroughout (I.holds invariant.now) (store_opening z) p.history → IsHistory z callers p → p ≡ past_view p.past → IsPast z.table (map (λ (x : CallerView). x.seat) callers) p.past → ShowsItsSeat c → StandsAtOnce f c d → Remembers d e → ShowsItsSeat e → e.of ≡ z → Contains callers e → IsSeenWhere (I.holds invariant.now) (store_opening z) p.history c.known f }
+    ensures view { (z : StoreView) (callers : List CallerView) (p : PastView) (c d e : CallerView) (f : Footprint) → HoldsThroughout (I.holds invariant.now) (store_opening z) p.history → IsHistory z callers p → p ≡ past_view p.past → IsPast z.table (map (λ (x : CallerView). x.seat) callers) p.past → ShowsItsSeat c → StandsAtOnce f c d → Remembers d e → ShowsItsSeat e → e.of ≡ z → Contains callers e → IsSeenWhere (I.holds invariant.now) (store_opening z) p.history c.known f }
+    ensures entry { (z : StoreView) (callers : List CallerView) (p : PastView) (e : CallerView) (x : Entry) → HoldsThroughout (I.holds invariant.now) (store_opening z) p.history → IsHistory z callers p → Contains callers e → Contains e.own x → IsSeenWhere (I.holds invariant.now) (store_opening z) p.history [] x.footprint }
 {
     views_stand_in_the_history();
 }

@@ -1,4 +1,4 @@
 pub mod Sums
-pub mod Reads
+pub mod Totals
 pub mod Opened
 pub mod Ones

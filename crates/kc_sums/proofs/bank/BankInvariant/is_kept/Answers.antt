@@ -1,4 +1,4 @@
-use Rattle.kc_sums.proofs.Reads.{each_keeps}
+use Rattle.kc_sums.proofs.Totals.{each_keeps}
 use Rattle.kc_sums.proofs.bank.BankInvariant.is_kept.Goals as goal
 
 pub returns : goal.returns
