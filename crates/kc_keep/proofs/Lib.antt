@@ -1,5 +1,5 @@
 pub mod Keeping
 pub mod Steps
 pub mod Together
-pub mod Telling
+pub mod Told
 pub mod Seeing

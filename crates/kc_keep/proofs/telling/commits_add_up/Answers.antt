@@ -1,5 +1,5 @@
 use Rattle.std.proofs.Common.{refl}
-use Rattle.kc_keep.proofs.Telling.{both_added, has_all, has_still, none_added}
+use Rattle.kc_keep.proofs.Told.{both_added, has_all, has_still, none_added}
 use Rattle.kc_store.specs.Views.{opened_caller}
 use Rattle.kc_keep.proofs.telling.commits_add_up.Goals as goal
 

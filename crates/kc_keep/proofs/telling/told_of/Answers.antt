@@ -1,4 +1,4 @@
-use Rattle.kc_keep.proofs.Telling.{committed, told, tried}
+use Rattle.kc_keep.proofs.Told.{committed, told, tried}
 use Rattle.kc_keep.proofs.telling.told_of.Goals as goal
 
 pub returns-clause-told : goal.returns-clause-told

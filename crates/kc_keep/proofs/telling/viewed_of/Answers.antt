@@ -1,4 +1,4 @@
-use Rattle.kc_keep.proofs.Telling.{seen, seen_at_last}
+use Rattle.kc_keep.proofs.Told.{seen, seen_at_last}
 use Rattle.kc_keep.proofs.telling.viewed_of.Goals as goal
 
 pub returns-clause-viewed : goal.returns-clause-viewed

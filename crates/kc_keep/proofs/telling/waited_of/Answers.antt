@@ -1,4 +1,4 @@
-use Rattle.kc_keep.proofs.Telling.{told_at_last, waited}
+use Rattle.kc_keep.proofs.Told.{told_at_last, waited}
 use Rattle.kc_keep.proofs.telling.waited_of.Goals as goal
 
 pub returns-clause-told : goal.returns-clause-told
