@@ -1,11 +1,10 @@
 -- What each meaning keeps holds behind every front.
-use Rattle.std.proofs.Common.{◌≡◌, ◌≢◌, ℕ, ◌⊎◌, inl, inr, List, [], ◌∷◌, ◌++◌, Option, Some, None, refl, sym, ap, subst, ◌∙◌}
-use Rattle.std.specs.Prelude.{All}
+use Rattle.std.proofs.Common.{◌≡◌, ℕ, inl, inr, List, [], ◌∷◌, ◌++◌, Option, Some, None, refl, sym, ap, subst, ◌∙◌}
 use Rattle.std.specs.Option.{option_map, unwrap_or}
 use Rattle.std.proofs.Math.Path.{fun_ext}
 use Rattle.std.proofs.lemmas.List.Elements.{All-head, All-tail, All-cons, All-nil}
 use Rattle.kc_keep.specs.Keeping.{HoldsThroughout, IsKeptBy}
-use Rattle.kc_keep.specs.Only.{IsEntryOf, IsOf, IsOfOne, OfMeanings}
+use Rattle.kc_keep.specs.Only.{IsEntryOf, IsOf, OfMeanings}
 use Rattle.kc_model.specs.Footprint.{put_at}
 use Rattle.kc_model.specs.Legal.{IsLegal}
 use Rattle.kc_model.specs.Store.{Store, Finds, after, cell_after}

@@ -6,7 +6,7 @@ use Rattle.kc_model.specs.Legal.{IsLegal}
 use Rattle.kc_model.specs.Store.{Finds, Store, after}
 use Rattle.kc_model.specs.declared.footprint.Entry.{Entry}
 use Rattle.kc_model.specs.declared.footprint.Footprint.{Footprint}
-use Rattle.kc_store.specs.Knows.{IsWithin, none}
+use Rattle.kc_store.specs.Knows.{none}
 use Rattle.kc_store.specs.Viewing.{FrontMakes}
 use Rattle.kc_store.specs.kc_machine_traces.Histories.{made}
 

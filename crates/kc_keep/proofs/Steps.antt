@@ -1,9 +1,9 @@
 -- The step that each meaning makes, each entry makes.
-use Rattle.std.proofs.Common.{◌≡◌, ℕ, ◌⊎◌, inl, inr, List, [], ◌∷◌, ◌++◌, sym, subst}
+use Rattle.std.proofs.Common.{ℕ, inl, inr, List, [], ◌∷◌, ◌++◌, sym, subst}
 use Rattle.std.proofs.lemmas.List.Elements.{All-head, All-tail}
 use Rattle.kc_keep.proofs.Keeping.{left_by, nothing_put, of_front, of_rest, one_keeps, says, stands}
 use Rattle.kc_keep.specs.Keeping.{IsKeptBy}
-use Rattle.kc_keep.specs.Only.{IsEntryOf, IsOf, IsOfOne, OfMeanings}
+use Rattle.kc_keep.specs.Only.{IsEntryOf, IsOf, OfMeanings}
 use Rattle.kc_keep.specs.Steps.{IsStepOf, IsTransitive, LastsThroughout, StepsThroughout}
 use Rattle.kc_model.specs.Legal.{IsLegal}
 use Rattle.kc_model.specs.Store.{Store, Finds, after}

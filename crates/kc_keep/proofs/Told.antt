@@ -1,16 +1,16 @@
 -- A commit of one of the meanings adds entries of these meanings.
-use Rattle.std.proofs.Common.{◌≡◌, ℕ, ◌⊎◌, inl, inr, List, [], ◌∷◌, ◌++◌, sym, ap, subst, ◌∙◌}
+use Rattle.std.proofs.Common.{◌≡◌, ℕ, inl, inr, List, [], ◌∷◌, ◌++◌, sym, ap, subst, ◌∙◌}
 use Rattle.std.specs.Prelude.{All}
 use Rattle.std.proofs.lemmas.List.{append_assoc, append-nil}
 use Rattle.std.proofs.lemmas.List.Elements.{All-append, All-cons, All-nil}
 use Rattle.kc_await.specs.Adds.{AddsLooksAlone, AddsLooksAndOne, IsLookOf, IsToldAtLast, WaitsSo}
 use Rattle.kc_await.specs.Viewing.{IsViewedAtLast}
-use Rattle.kc_keep.specs.Only.{CommitsOnly, HasOnly, IsEntryOf, IsOf, IsOfOne, OfMeanings}
+use Rattle.kc_keep.specs.Only.{CommitsOnly, HasOnly, IsEntryOf, IsOf, OfMeanings}
 use Rattle.kc_model.specs.declared.footprint.Entry.{Entry}
 use Rattle.kc_model.specs.declared.footprint.Footprint.{Footprint}
 use Rattle.kc_model.specs.declared.reply.Answer.TheVariants as answer
 use Rattle.kc_model.specs.declared.reply.Reply.{Reply}
-use Rattle.kc_store.specs.Knows.{AddsNone, AddsOne, CommitsSo, IsTold, TriesSo, entry_of}
+use Rattle.kc_store.specs.Knows.{AddsOne, CommitsSo, IsTold, TriesSo, entry_of}
 use Rattle.kc_store.specs.Verdicts.{verdict_of}
 use Rattle.kc_store.specs.Viewing.{IsViewed}
 use Rattle.kc_store.specs.Views.{CallerView}

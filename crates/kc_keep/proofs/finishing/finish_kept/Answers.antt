@@ -1,4 +1,4 @@
-use Rattle.std.proofs.Common.{◌≡◌, List, [], append-nil, subst, sym}
+use Rattle.std.proofs.Common.{List, [], append-nil, subst, sym}
 use Rattle.std.proofs.lemmas.List.{map-id}
 use Rattle.kc_store.specs.Knows.{IsHistory}
 use Rattle.kc_store.specs.Views.{CallerView, last}
