@@ -38,7 +38,7 @@ same_reply a b e = cc
 same_number : (n k : ℕ) → reply.Value n ≡ reply.Value k → n ≡ k
 same_number n k e = cc
 
-abbrev all_read : Accumulator → Meaning
+abbrev pub all_read : Accumulator → Meaning
 all_read x = acc_meaning (record { acc = x; act = Total })
 
 read_comes : (x : Accumulator) (n : ℕ) (m : ℕ → ℕ) (ks : List ℕ) (a : Reply) → (all_read x n m ks).outcome ≡ replied a → (a ≡ reply.Value (wrapped (cells_sum m x.base.0 x.cells))) × (map_after m (all_read x n m ks).touches ≡ m)

@@ -1,8 +1,9 @@
 //! Two threads that transfer, a view of what they left, and the history.
 
-ghost use Rattle.std.specs.Prelude.{◌≡◌, ◌≤◌, ◌<◌, ◌*◌, IfOk};
+ghost use Rattle.std.specs.Prelude.{◌≡◌, ◌≤◌, ◌<◌, ◌*◌, IfOk, replicate};
 ghost use Rattle.kc_keep.specs.Only.{CommitsOnly};
-ghost use Rattle.kc_store.specs.Knows.{Remembers};
+ghost use Rattle.kc_store.specs.Knows.{OpensWith, Remembers};
+ghost use Rattle.kc_store.specs.Views.{opened_caller};
 ghost use Rattle.kc_sums.specs.Sums.{IsBank, IsOfBank};
 ghost use Rattle.kc_sums.specs.Views.{HasTotalThroughout};
 
@@ -35,19 +36,38 @@ pub fn run_bank<R: Threads + Wait + Sync>(
     ensures throughout { IfOk result (λ t. HasTotalThroughout bank.now t.0) }
     ensures sum { IfOk result (λ t. t.1 ≡ bank.now.accounts * bank.now.each) }
 {
-    commits_add_up(bank);
-    views_see_it_hold(bank);
-    what_is_known_stays_known();
     let (store, first, second) = bank.open(alloc)?;
     let shared = &store;
-    let (mut first, second) = thread::join(
+    let (first, second) = thread::join(
         rt,
         move || transfer_all(rt, shared, first, bank, Loc(0), Loc(1)),
         move || transfer_all(rt, shared, second, bank, Loc(1), Loc(0)),
     );
-    let Some(sum) = read_all(rt, &store, &mut first, bank) else {
-        return Err(io::ErrorKind::Other.into());
-    };
+    view_and_finish(rt, alloc, bank, store, first, second)
+}
+
+// A view of all accounts by the first caller, and what is left.
+fn view_and_finish<R: Wait>(
+    rt: &R,
+    alloc: Global,
+    bank: &Bank,
+    store: Store,
+    mut first: Caller,
+    second: Caller,
+) -> io::Result<(Past, u32)>
+    requires bank { IsBank bank.now }
+    requires opens { OpensWith (replicate bank.now.accounts bank.now.each) (replicate bank.now.accounts 0) 2 store }
+    requires first { Remembers (opened_caller store 0) first }
+    requires second { Remembers (opened_caller store 1) second }
+    requires first_only { CommitsOnly (IsOfBank bank.now) (opened_caller store 0) first }
+    requires second_only { CommitsOnly (IsOfBank bank.now) (opened_caller store 1) second }
+    ensures throughout { IfOk result (λ t. HasTotalThroughout bank.now t.0) }
+    ensures sum { IfOk result (λ t. t.1 ≡ bank.now.accounts * bank.now.each) }
+{
+    commits_add_up(bank);
+    views_see_it_hold(bank);
+    what_is_known_stays_known();
+    let sum = read_all(rt, &store, &mut first, bank)?;
     let mut callers = Vec::new(alloc);
     callers.push(first)?;
     callers.push(second)?;
