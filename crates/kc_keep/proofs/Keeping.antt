@@ -4,7 +4,7 @@ use Rattle.std.specs.Option.{option_map, unwrap_or}
 use Rattle.std.proofs.Math.Path.{fun_ext}
 use Rattle.std.proofs.lemmas.List.Elements.{All-head, All-tail, All-cons, All-nil}
 use Rattle.kc_keep.specs.Keeping.{HoldsThroughout, IsKeptBy}
-use Rattle.kc_keep.specs.Only.{IsEntryOf, IsOf, OfMeanings}
+use Rattle.kc_keep.specs.Only.{IsEntryOfThese, IsOfThese, OfMeanings}
 use Rattle.kc_model.specs.Footprint.{put_at}
 use Rattle.kc_model.specs.Legal.{IsLegal}
 use Rattle.kc_model.specs.Store.{Store, Finds, after, cell_after}
@@ -37,7 +37,7 @@ says retried a e = absurd (cc)
 says too_large a e = absurd (cc)
 
 module _ (is_one : Meaning → Type 0) (holds : (ℕ → ℕ) → Type 0) (kept : (m : Meaning) → is_one m → IsKeptBy holds m) where
-  pub one_keeps : (s : Store) (f : Footprint) → IsOf is_one f → Finds f s → holds (values s) → holds (values (after f s))
+  pub one_keeps : (s : Store) (f : Footprint) → IsOfThese is_one f → Finds f s → holds (values s) → holds (values (after f s))
   one_keeps s f (inl nothing) finds h = subst holds (sym (nothing_put s f nothing)) h
   one_keeps s f (inr o) finds h =
       let m : Meaning = limited o.most o.meaning in
@@ -47,20 +47,20 @@ module _ (is_one : Meaning → Type 0) (holds : (ℕ → ℕ) → Type 0) (kept 
   pub stands : (es : List Entry) (s t : Store) → OfMeanings is_one es → IsLegal s es t → holds (values s) → holds (values t)
   stands [] s t of legal h = subst (λ (u : Store). holds (values u)) (sym legal) h
   stands (x ∷ xs) s t of legal h =
-      stands xs (after x.footprint s) t (All-tail (IsEntryOf is_one) x xs of) legal.1 (one_keeps s x.footprint (All-head (IsEntryOf is_one) x xs of) legal.0 h)
+      stands xs (after x.footprint s) t (All-tail (IsEntryOfThese is_one) x xs of) legal.1 (one_keeps s x.footprint (All-head (IsEntryOfThese is_one) x xs of) legal.0 h)
 
 -- the entries of a front
 pub of_front : (is_one : Meaning → Type 0) (before behind : List Entry) → OfMeanings is_one (before ++ behind) → OfMeanings is_one before
-of_front is_one [] behind of = All-nil (IsEntryOf is_one)
-of_front is_one (x ∷ xs) behind of = cons (All-head (IsEntryOf is_one) x (xs ++ behind) of) (of_front is_one xs behind (All-tail (IsEntryOf is_one) x (xs ++ behind) of))
+of_front is_one [] behind of = All-nil (IsEntryOfThese is_one)
+of_front is_one (x ∷ xs) behind of = cons (All-head (IsEntryOfThese is_one) x (xs ++ behind) of) (of_front is_one xs behind (All-tail (IsEntryOfThese is_one) x (xs ++ behind) of))
   where
-    cons : IsEntryOf is_one x → OfMeanings is_one xs → OfMeanings is_one (x ∷ xs)
-    cons = All-cons (IsEntryOf is_one) x xs
+    cons : IsEntryOfThese is_one x → OfMeanings is_one xs → OfMeanings is_one (x ∷ xs)
+    cons = All-cons (IsEntryOfThese is_one) x xs
 
 -- and those behind it
 pub of_rest : (is_one : Meaning → Type 0) (before behind : List Entry) → OfMeanings is_one (before ++ behind) → OfMeanings is_one behind
 of_rest is_one [] behind of = of
-of_rest is_one (x ∷ xs) behind of = of_rest is_one xs behind (All-tail (IsEntryOf is_one) x (xs ++ behind) of)
+of_rest is_one (x ∷ xs) behind of = of_rest is_one xs behind (All-tail (IsEntryOfThese is_one) x (xs ++ behind) of)
 
 pub throughout : (is_one : Meaning → Type 0) (holds : (ℕ → ℕ) → Type 0) → ((m : Meaning) → is_one m → IsKeptBy holds m) → (s : Store) (es : List Entry) → OfMeanings is_one es → holds (values s) → HoldsThroughout holds s es
 throughout is_one holds kept s es of h before behind t e legal = stands is_one holds kept before s t (of_front is_one before behind (subst (OfMeanings is_one) e of)) legal h

@@ -5,7 +5,7 @@ use Rattle.std.proofs.lemmas.Bool.Decides.{nat_tests}
 use Rattle.std.proofs.lemmas.List.Elements.{All-head, All-tail, All-cons, All-nil}
 use Rattle.std.proofs.lemmas.List.Sorted.{Contains-permutation}
 use borrow.Author.Tests.{eqb-false}
-use Rattle.kc_keep.specs.Only.{IsEntryOf, OfMeanings}
+use Rattle.kc_keep.specs.Only.{IsEntryOfThese, OfMeanings}
 use Rattle.kc_model.specs.declared.footprint.Entry.{Entry}
 use Rattle.kc_store.specs.Backs.{AreAllCallers}
 use Rattle.kc_store.specs.Knows.{IsHistory, entries_of}
@@ -34,23 +34,23 @@ none_of k n (x ∷ xs) le below =
     rw other (none_of k n xs le (All-tail (λ (e : Entry). e.caller < n) x xs below))
 
 module _ (is_one : Meaning → Type 0) where
-  head_of : (x : Entry) (es : List Entry) → OfMeanings is_one (entries_of x.caller (x ∷ es)) → IsEntryOf is_one x
+  head_of : (x : Entry) (es : List Entry) → OfMeanings is_one (entries_of x.caller (x ∷ es)) → IsEntryOfThese is_one x
   head_of x es of = by_test (x.caller == x.caller) (grind (arith, nat_tests)) of
     where
-      by_test : (b : Bool) → b ≡ true → OfMeanings is_one (cond b (x ∷ entries_of x.caller es) (entries_of x.caller es)) → IsEntryOf is_one x
-      by_test true e of = All-head (IsEntryOf is_one) x (entries_of x.caller es) of
+      by_test : (b : Bool) → b ≡ true → OfMeanings is_one (cond b (x ∷ entries_of x.caller es) (entries_of x.caller es)) → IsEntryOfThese is_one x
+      by_test true e of = All-head (IsEntryOfThese is_one) x (entries_of x.caller es) of
       by_test false e of = absurd (cc)
 
   tail_of : (k : ℕ) (x : Entry) (es : List Entry) → OfMeanings is_one (entries_of k (x ∷ es)) → OfMeanings is_one (entries_of k es)
   tail_of k x es of = by_test (x.caller == k) of
     where
       by_test : (b : Bool) → OfMeanings is_one (cond b (x ∷ entries_of k es) (entries_of k es)) → OfMeanings is_one (entries_of k es)
-      by_test true of = All-tail (IsEntryOf is_one) x (entries_of k es) of
+      by_test true of = All-tail (IsEntryOfThese is_one) x (entries_of k es) of
       by_test false of = of
 
   together : (es : List Entry) → ((k : ℕ) → OfMeanings is_one (entries_of k es)) → OfMeanings is_one es
-  together [] of = All-nil (IsEntryOf is_one)
-  together (x ∷ es) of = All-cons (IsEntryOf is_one) x es (head_of x es (of x.caller)) (together es (λ k. tail_of k x es (of k)))
+  together [] of = All-nil (IsEntryOfThese is_one)
+  together (x ∷ es) of = All-cons (IsEntryOfThese is_one) x es (head_of x es (of x.caller)) (together es (λ k. tail_of k x es (of k)))
 
   module _ (z : StoreView) (callers : List CallerView) (p : PastView) (all : AreAllCallers z callers) (history : IsHistory z callers p) (keeps : All (λ (c : CallerView). OfMeanings is_one c.own) callers) where
     abbrev Keeps : CallerView → Type 0
@@ -64,7 +64,7 @@ module _ (is_one : Meaning → Type 0) where
         subst (λ i. OfMeanings is_one (entries_of i p.history)) c.2 (subst (OfMeanings is_one) (sym c.1.0) c.1.1)
     of_caller k false e =
         let above : z.callers ≤ k = grind (arith, nat_tests, e) in
-        subst (OfMeanings is_one) (sym (none_of k z.callers p.history above history.nobody_else)) (All-nil (IsEntryOf is_one))
+        subst (OfMeanings is_one) (sym (none_of k z.callers p.history above history.nobody_else)) (All-nil (IsEntryOfThese is_one))
 
     pub of_store : OfMeanings is_one p.history
     of_store = together p.history (λ k. of_caller k (nat_lt k z.callers) refl)

@@ -5,7 +5,7 @@ use Rattle.std.proofs.lemmas.List.{append_assoc, append-nil}
 use Rattle.std.proofs.lemmas.List.Elements.{All-append, All-cons, All-nil}
 use Rattle.kc_await.specs.Adds.{AddsLooksAlone, AddsLooksAndOne, IsLookOf, IsToldAtLast, WaitsSo}
 use Rattle.kc_await.specs.Viewing.{IsViewedAtLast}
-use Rattle.kc_keep.specs.Only.{CommitsOnly, HasOnly, IsEntryOf, IsOf, OfMeanings}
+use Rattle.kc_keep.specs.Only.{CommitsOnly, HasOnly, IsEntryOfThese, IsOfThese, OfMeanings}
 use Rattle.kc_model.specs.declared.footprint.Entry.{Entry}
 use Rattle.kc_model.specs.declared.footprint.Footprint.{Footprint}
 use Rattle.kc_model.specs.declared.reply.Answer.TheVariants as answer
@@ -30,14 +30,14 @@ use Rattle.kc_xt.specs.Meaning.{Meaning, limited}
 
 module _ (is_one : Meaning → Type 0) where
   abbrev E : Entry → Type 0
-  E = IsEntryOf is_one
+  E = IsEntryOfThese is_one
 
   -- ---- what is added
 
   adds_none : (c d : CallerView) → d.own ≡ c.own → CommitsOnly is_one c d
   adds_none c d e = record { added = []; own = e ∙ sym (append-nil c.own); only = All-nil E }
 
-  adds_one : (f : Footprint) (c d : CallerView) → IsOf is_one f → AddsOne c f d → CommitsOnly is_one c d
+  adds_one : (f : Footprint) (c d : CallerView) → IsOfThese is_one f → AddsOne c f d → CommitsOnly is_one c d
   adds_one f c d is so = record { added = entry_of c.number so.0 f ∷ []; own = so.1; only = All-cons E (entry_of c.number so.0 f) [] is (All-nil E) }
 
   looks_of : (k : ℕ) (m : Meaning) (es : List Entry) → All (IsLookOf k m) es → OfMeanings is_one es
@@ -46,7 +46,7 @@ module _ (is_one : Meaning → Type 0) where
   adds_looks : (m : Meaning) (c d : CallerView) → AddsLooksAlone m c d → CommitsOnly is_one c d
   adds_looks m c d so = record { added = so.looks; own = so.own; only = looks_of c.number m so.looks so.each }
 
-  adds_behind : (m : Meaning) (f : Footprint) (c d : CallerView) → IsOf is_one f → AddsLooksAndOne m c f d → CommitsOnly is_one c d
+  adds_behind : (m : Meaning) (f : Footprint) (c d : CallerView) → IsOfThese is_one f → AddsLooksAndOne m c f d → CommitsOnly is_one c d
   adds_behind m f c d is so =
       let x : Entry = entry_of c.number so.number f in
       record {
@@ -55,7 +55,7 @@ module _ (is_one : Meaning → Type 0) where
         only = All-append E so.looks (x ∷ []) (looks_of c.number m so.looks so.each) (All-cons E x [] is (All-nil E));
       }
 
-  answers_one : (n : ℕ) (m : Meaning) (r : Reply) (f : Footprint) → is_one m → Answers (limited n m) (answer.Reply r) f → IsOf is_one f
+  answers_one : (n : ℕ) (m : Meaning) (r : Reply) (f : Footprint) → is_one m → Answers (limited n m) (answer.Reply r) f → IsOfThese is_one f
   answers_one n m r f is y = inr (record { most = n; meaning = m; one = is; reply = r; answers = y })
 
   -- ---- by what was answered

@@ -19,15 +19,15 @@ pub record IsOfOne (is_one : Meaning → Type 0) (f : Footprint) : Type 0 where
   pub answers : Answers (limited most meaning) (answer.Reply reply) f
 
 -- or one that puts nothing
-abbrev pub IsOf : (Meaning → Type 0) → Footprint → Type 0
-IsOf is_one f = (f.puts.items ≡ []) ⊎ IsOfOne is_one f
+abbrev pub IsOfThese : (Meaning → Type 0) → Footprint → Type 0
+IsOfThese is_one f = (f.puts.items ≡ []) ⊎ IsOfOne is_one f
 
-abbrev pub IsEntryOf : (Meaning → Type 0) → Entry → Type 0
-IsEntryOf is_one e = IsOf is_one e.footprint
+abbrev pub IsEntryOfThese : (Meaning → Type 0) → Entry → Type 0
+IsEntryOfThese is_one e = IsOfThese is_one e.footprint
 
 -- each entry is of one of these meanings, or puts nothing
 abbrev pub OfMeanings : (Meaning → Type 0) → List Entry → Type 0
-OfMeanings is_one es = All (IsEntryOf is_one) es
+OfMeanings is_one es = All (IsEntryOfThese is_one) es
 
 -- ---- callers
 

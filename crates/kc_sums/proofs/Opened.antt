@@ -6,13 +6,13 @@ use Rattle.kc_keep.specs.Only.{HasOnly}
 use Rattle.kc_model.proofs.Stores.{Contains-first}
 use Rattle.kc_store.specs.Knows.{OpensWith}
 use Rattle.kc_store.specs.Views.{CallerView, StoreView, store_opening}
-use Rattle.kc_sums.specs.Sums.{HasTotal, IsOfBank, sum_below}
+use Rattle.kc_sums.specs.Sums.{HasTotal, IsOfBank, accounts_sum}
 use Rattle.kc_sums.specs.declared.bank.Bank.{Bank}
 use Rattle.kc_xt.specs.Meaning.{values}
 use Rattle.std.proofs.lemmas.Grind.{common_steps}
 use Rattle.std.proofs.Math.Nat.{suc-mul}
 
-pub sum_each : (n v : ℕ) (m : ℕ → ℕ) → ((l : ℕ) → l < n → m l ≡ v) → sum_below n m ≡ n * v
+pub sum_each : (n v : ℕ) (m : ℕ → ℕ) → ((l : ℕ) → l < n → m l ≡ v) → accounts_sum n m ≡ n * v
 sum_each zero v m all = omega arith
 sum_each (suc n) v m all =
     let ih = sum_each n v m (λ l lt. all l (omega (arith, lt))) in

@@ -14,25 +14,25 @@ use Rattle.kc_loc.specs.declared.operation.LocOp.TheVariants.{Check, FetchAdd}
 use Rattle.kc_model.specs.declared.footprint.Loc.{Loc}
 use Rattle.kc_model.specs.declared.reply.Reply.{Reply}
 use Rattle.kc_model.specs.declared.reply.Reply.TheVariants as reply
-use Rattle.kc_sums.specs.Sums.{HasTotal, IsTransfer, sum_below, transfer_meaning}
+use Rattle.kc_sums.specs.Sums.{HasTotal, IsTransfer, accounts_sum, transfer_meaning}
 use Rattle.kc_sums.specs.declared.bank.Bank.{Bank}
 use Rattle.kc_xt.specs.Meaning.{Meaning, Outcome, map_after, put, replied, retried, too_large, touched_after}
 use Rattle.kc_xt.specs.Program.{wrapped}
 
 -- ---- sums
 
-sum_other : (n l v : ℕ) (m : ℕ → ℕ) → n ≤ l → sum_below n (put m l v) ≡ sum_below n m
+sum_other : (n l v : ℕ) (m : ℕ → ℕ) → n ≤ l → accounts_sum n (put m l v) ≡ accounts_sum n m
 sum_other zero l v m le = refl
 sum_other (suc n) l v m le =
     let e : (l == n) ≡ false = grind (arith, nat_tests, le) in
     let ih = sum_other n l v m (omega (arith, le)) in
     rw e (omega (arith, ih))
 
-pub sum_put : (n l v : ℕ) (m : ℕ → ℕ) → l < n → sum_below n (put m l v) + m l ≡ sum_below n m + v
+pub sum_put : (n l v : ℕ) (m : ℕ → ℕ) → l < n → accounts_sum n (put m l v) + m l ≡ accounts_sum n m + v
 sum_put zero l v m lt = absurd (omega (arith, lt))
 sum_put (suc n) l v m lt = by_test (l == n) refl (λ less. sum_put n l v m less)
   where
-    by_test : (b : Bool) → (l == n) ≡ b → (l < n → sum_below n (put m l v) + m l ≡ sum_below n m + v) → (sum_below n (put m l v) + cond (l == n) v (m n)) + m l ≡ (sum_below n m + m n) + v
+    by_test : (b : Bool) → (l == n) ≡ b → (l < n → accounts_sum n (put m l v) + m l ≡ accounts_sum n m + v) → (accounts_sum n (put m l v) + cond (l == n) v (m n)) + m l ≡ (accounts_sum n m + m n) + v
     by_test true e rest =
         let q : l ≡ n = grind (arith, nat_tests, e) in
         let same = sum_other n l v m (omega (arith, q)) in
@@ -43,7 +43,7 @@ sum_put (suc n) l v m lt = by_test (l == n) refl (λ less. sum_put n l v m less)
         let ih = rest (omega (arith, lt, ne)) in
         rw e (omega (arith, ih))
 
-pub le_sum : (n l : ℕ) (m : ℕ → ℕ) → l < n → m l ≤ sum_below n m
+pub le_sum : (n l : ℕ) (m : ℕ → ℕ) → l < n → m l ≤ accounts_sum n m
 le_sum n l m lt = let e = sum_put n l 0 m lt in omega (arith, e)
 
 -- ---- one operation
@@ -73,16 +73,16 @@ less x k le lt some = omega (arith, le, lt, some)
 pub small : (x : ℕ) → x < 2 ^ 32 → x % 2 ^ 32 ≡ x
 small x lt = omega (arith, lt)
 
-moved : (n a b k total : ℕ) (m : ℕ → ℕ) → a < n → b < n → 0 < k → k < 2 ^ 32 → total < 2 ^ 32 → sum_below n m ≡ total → k ≤ m a → (let v : ℕ → ℕ = put m a (wrapped (m a + (2 ^ 32 - k))) in sum_below n (put v b (wrapped (v b + k))) ≡ total)
+moved : (n a b k total : ℕ) (m : ℕ → ℕ) → a < n → b < n → 0 < k → k < 2 ^ 32 → total < 2 ^ 32 → accounts_sum n m ≡ total → k ≤ m a → (let v : ℕ → ℕ = put m a (wrapped (m a + (2 ^ 32 - k))) in accounts_sum n (put v b (wrapped (v b + k))) ≡ total)
 moved n a b k total m in_a in_b some fit lt is le =
     let top = le_sum n a m in_a in
     let new : wrapped (m a + (2 ^ 32 - k)) ≡ m a - k = less (m a) k le (omega (arith, top, is, lt)) some in
     let v : ℕ → ℕ = put m a (wrapped (m a + (2 ^ 32 - k))) in
-    let first : sum_below n v + m a ≡ sum_below n m + wrapped (m a + (2 ^ 32 - k)) = sum_put n a _ m in_a in
-    let left : sum_below n v + k ≡ total = omega (arith, first, new, is, le) in
-    let high : v b ≤ sum_below n v = le_sum n b v in_b in
+    let first : accounts_sum n v + m a ≡ accounts_sum n m + wrapped (m a + (2 ^ 32 - k)) = sum_put n a _ m in_a in
+    let left : accounts_sum n v + k ≡ total = omega (arith, first, new, is, le) in
+    let high : v b ≤ accounts_sum n v = le_sum n b v in_b in
     let whole : wrapped (v b + k) ≡ v b + k = small (v b + k) (omega (arith, high, left, lt)) in
-    let second : sum_below n (put v b (wrapped (v b + k))) + v b ≡ sum_below n v + wrapped (v b + k) = sum_put n b _ v in_b in
+    let second : accounts_sum n (put v b (wrapped (v b + k))) + v b ≡ accounts_sum n v + wrapped (v b + k) = sum_put n b _ v in_b in
     omega (arith, second, whole, left)
 
 transfer_keeps : (b : Bank) (from to : Loc) (k : ℕ) → from.0 < b.accounts → to.0 < b.accounts → 0 < k → k < 2 ^ 32 → IsKeptBy (HasTotal b) (transfer_meaning from to k)

@@ -15,7 +15,7 @@ use Rattle.kc_model.specs.declared.reply.Reply.{Reply}
 use Rattle.kc_model.specs.declared.reply.Reply.TheVariants as reply
 use Rattle.kc_store.specs.Views.{CallerView}
 use Rattle.kc_sums.proofs.Sums.{fits, small, transfer_is_kept}
-use Rattle.kc_sums.specs.Sums.{HasTotal, IsOfBank, IsReading, sum_below}
+use Rattle.kc_sums.specs.Sums.{HasTotal, IsOfBank, IsReading, accounts_sum}
 use Rattle.kc_sums.specs.Views.{SawTotal}
 use Rattle.kc_sums.specs.declared.bank.Bank.{Bank}
 use Rattle.kc_xt.proofs.PlainRuns.{plain-meaning}
@@ -23,7 +23,7 @@ use Rattle.kc_xt.specs.Commit.{Answers, run_on}
 use Rattle.kc_xt.specs.Meaning.{Meaning, lesser, limited, map_after, replied, values}
 use Rattle.kc_xt.specs.Program.{Plain, replies, wrapped}
 
-sum_is_cells : (n : ℕ) (m : ℕ → ℕ) → sum_below n m ≡ cells_sum m 0 n
+sum_is_cells : (n : ℕ) (m : ℕ → ℕ) → accounts_sum n m ≡ cells_sum m 0 n
 sum_is_cells zero m = refl
 sum_is_cells (suc n) m =
     let next : suc n ≡ n + 1 = omega arith in
@@ -62,7 +62,7 @@ read_exact b sum p f t r y finds h =
     let said = says (run_on (limited MOST p) t).outcome (reply.Value sum) (y.run t finds) in
     let read = read_comes r.all (lesser MOST MOST) (values t) [] (reply.Value sum) (subst (λ (q : Meaning). (q (lesser MOST MOST) (values t) []).outcome ≡ replied (reply.Value sum)) r.is said) in
     let whole : cells_sum (values t) r.all.base.0 r.all.cells ≡ b.accounts * b.each =
-        ap (λ l. cells_sum (values t) l r.all.cells) r.base ∙ ap (cells_sum (values t) 0) r.cells ∙ sym (sum_is_cells b.accounts (values t)) ∙ h.1 in
+    ap (λ l. cells_sum (values t) l r.all.cells) r.base ∙ ap (cells_sum (values t) 0) r.cells ∙ sym (sum_is_cells b.accounts (values t)) ∙ h.1 in
     same_number _ _ read.0 ∙ ap wrapped whole ∙ small (b.accounts * b.each) h.0
 
 pub view_exact : (b : Bank) (sum : ℕ) (c d : CallerView) (s : Store) (es : List Entry) (saw : SawTotal b sum c d) → IsSeenWhere (HasTotal b) s es c.known saw.footprint → sum ≡ b.accounts * b.each

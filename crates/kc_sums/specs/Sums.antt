@@ -21,13 +21,13 @@ pub record IsBank (b : Bank) : Type 0 where
   pub total : b.accounts * b.each < 2 ^ 32
 
 -- of the first n locations
-abbrev pub sum_below : ℕ → (ℕ → ℕ) → ℕ
-sum_below zero m = 0
-sum_below (suc n) m = sum_below n m + m n
+abbrev pub accounts_sum : ℕ → (ℕ → ℕ) → ℕ
+accounts_sum zero m = 0
+accounts_sum (suc n) m = accounts_sum n m + m n
 
 -- the accounts have together what they opened with, which is a number
 abbrev pub HasTotal : Bank → (ℕ → ℕ) → Type 0
-HasTotal b m = (b.accounts * b.each < 2 ^ 32) × (sum_below b.accounts m ≡ b.accounts * b.each)
+HasTotal b m = (b.accounts * b.each < 2 ^ 32) × (accounts_sum b.accounts m ≡ b.accounts * b.each)
 
 -- ---- what is committed
 

@@ -11,7 +11,7 @@ use Rattle.kc_store.specs.Backs.{ShowsItsSeat}
 use Rattle.kc_store.specs.Knows.{OpensWith}
 use Rattle.kc_store.specs.Viewing.{StandsAtOnce}
 use Rattle.kc_store.specs.Views.{CallerView, PastView, StoreView, last, store_opening}
-use Rattle.kc_sums.specs.Sums.{IsReading, sum_below}
+use Rattle.kc_sums.specs.Sums.{IsReading, accounts_sum}
 use Rattle.kc_sums.specs.declared.bank.Bank.{Bank}
 use Rattle.kc_xt.specs.Commit.{Answers}
 use Rattle.kc_xt.specs.Meaning.{Meaning, limited, values}
@@ -21,7 +21,7 @@ pub record HasTotalThroughout (b : Bank) (p : PastView) : Type 0 where
   pub store : StoreView
   pub opens : OpensWith (replicate b.accounts b.each) (replicate b.accounts 0) 2 store
   pub legal : IsLegal (store_opening store) p.history (last p)
-  pub exact : (before behind : List Entry) (t : Store) → p.history ≡ before ++ behind → IsLegal (store_opening store) before t → sum_below b.accounts (values t) ≡ b.accounts * b.each
+  pub exact : (before behind : List Entry) (t : Store) → p.history ≡ before ++ behind → IsLegal (store_opening store) before t → accounts_sum b.accounts (values t) ≡ b.accounts * b.each
 
 -- a view of all accounts replied this, of reads that stood at one moment
 pub record SawTotal (b : Bank) (sum : ℕ) (c d : CallerView) : Type 0 where

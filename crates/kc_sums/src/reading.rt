@@ -21,12 +21,7 @@ use std::sync::Wait;
 /// # Errors
 ///
 /// - Other: where they changed in each of the view's tries, so that it ended as a commit
-pub fn read_all<R: Wait>(
-    rt: &R,
-    store: &Store,
-    caller: &mut Caller,
-    bank: &Bank,
-) -> io::Result<u32>
+pub fn read_all<R: Wait>(rt: &R, store: &Store, caller: &mut Caller, bank: &Bank) -> io::Result<u32>
     requires caller { caller.old.of ≡ store.now }
     requires bank { IsBank bank.now }
     requires size { bank.now.accounts ≤ store.now.locations }

@@ -16,6 +16,7 @@ loop-init g c = ((c.what_is_known_stays_known.ensures.same _).remembers, c.commi
 pub loop-preserved : goal.loop-preserved
 loop-preserved g c =
     let t = c.transfer.result in
-    let one = is_transfer c.args.bank.now t c.args.from c.args.to 7 c.transfer.ensures c.requires.from c.requires.to (omega arith) (omega arith) in
-    (c.what_is_known_stays_known.ensures.remembers _ _ _ c.loop.invariant.0 c.commit_waiting.ensures.remembers,
-        c.commits_add_up.ensures.then _ _ _ c.loop.invariant.1 (c.waited_of.ensures.waits MOST (meaning_of t) _ _ _ _ (inl one) c.commit_waiting.ensures.so))
+    let one = is_transfer c.args.bank.now t c.args.from c.args.to 7 c.transfer.ensures c.requires.from c.requires.to (omega arith) (omega arith) in (
+      c.what_is_known_stays_known.ensures.remembers _ _ _ c.loop.invariant.0 c.commit_waiting.ensures.remembers,
+      c.commits_add_up.ensures.then _ _ _ c.loop.invariant.1 (c.waited_of.ensures.waits MOST (meaning_of t) _ _ _ _ (inl one) c.commit_waiting.ensures.so),
+    )
