@@ -1,0 +1,5 @@
+pub mod Keeping
+pub mod Steps
+pub mod Together
+pub mod Told
+pub mod Seeing

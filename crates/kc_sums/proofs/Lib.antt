@@ -1,0 +1,5 @@
+pub mod Sums
+pub mod Totals
+pub mod Opened
+pub mod Ones
+pub mod Seen
