@@ -1,0 +1,3 @@
+pub mod Sched
+pub mod Jobs
+pub mod Acts
