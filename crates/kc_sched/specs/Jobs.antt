@@ -59,6 +59,8 @@ HasJobs s m = IsLaid s × (x : Jobs) × Shows s m x × AreJobs x
 abbrev pub EachGoes : Sched → (ℕ → ℕ) → (ℕ → ℕ) → Type 0
 EachGoes s m w = (job : ℕ) → job < JOBS → Goes (job_at s m job) (job_at s w job)
 
--- a job whose end was told stays as it is
-abbrev pub EndsStay : Sched → (ℕ → ℕ) → (ℕ → ℕ) → Type 0
-EndsStay s m w = (job v : ℕ) → job < JOBS → (job_at s m job).told ≡ Some v → job_at s w job ≡ job_at s m job
+-- a job that was cancelled or is done stays so, and its end stays told
+pub record EndsStay (s : Sched) (m w : ℕ → ℕ) : Type 0 where
+  pub cancelled : (job : ℕ) → job < JOBS → (job_at s m job).state ≡ Some CANCELLED → (job_at s w job).state ≡ Some CANCELLED
+  pub done : (job : ℕ) → job < JOBS → (job_at s m job).state ≡ Some DONE → (job_at s w job).state ≡ Some DONE
+  pub told : (job v : ℕ) → job < JOBS → (job_at s m job).told ≡ Some v → (job_at s w job).told ≡ Some v
