@@ -27,3 +27,7 @@ all_back s z xs four h = subst (AreAllCallers z) (sym h.are) (record {
 
 pub all_only : (s : Sched) (z : StoreView) (xs : List CallerView) → ((k : ℕ) (d : CallerView) → Serves s (opened_caller z k) d → HasOnly (IsAct s) d) → HaveServed s z xs → All (HasOnly (IsAct s)) xs
 all_only s z xs has h = subst (All (HasOnly (IsAct s))) (sym h.are) (all_four (HasOnly (IsAct s)) h.client h.clock h.first h.second (has 0 h.client h.client_serves) (has 1 h.clock h.clock_serves) (has 2 h.first h.first_serves) (has 3 h.second h.second_serves))
+
+-- what served from its opening on
+pub from_opening : (s : Sched) (z : StoreView) (k : ℕ) (c d : CallerView) → c ≡ opened_caller z k → Serves s c d → Serves s (opened_caller z k) d
+from_opening s z k c d e h = subst (λ x. Serves s x d) e h
