@@ -1,6 +1,5 @@
 -- Parts laid one behind another open as each does.
-use Rattle.std.proofs.Common.{◌≡◌, ℕ, ◌+◌, ◌*◌, ◌<◌, List, [], ◌∙◌, arith}
-use Rattle.std.specs.Prelude.{get_or}
+use Rattle.std.proofs.Common.{ℕ, ◌+◌, ◌*◌, List, ◌∙◌, arith}
 use Rattle.kc_cells.specs.OnePlace.{place_opening}
 use Rattle.kc_hash.specs.Content.{hash_opening}
 use Rattle.kc_hash.specs.Meaning.{hash_cells}

@@ -1,5 +1,5 @@
 -- What parts of a transaction make of the jobs.
-use Rattle.std.proofs.Common.{◌≡◌, ◌≢◌, ◌⊎◌, ℕ, ◌+◌, ◌*◌, ◌<◌, ◌≤◌, Bool, true, false, cond, List, length, Option, Some, None, inl, inr, refl, sym, ap, subst, ◌∙◌, arith}
+use Rattle.std.proofs.Common.{◌≡◌, ◌≢◌, ◌⊎◌, ℕ, ◌+◌, ◌<◌, ◌≤◌, Bool, true, false, cond, List, length, Option, Some, None, inl, inr, refl, sym, ap, subst, ◌∙◌, arith}
 use Rattle.std.specs.Prelude.{◌==◌}
 use Rattle.std.proofs.lemmas.Bool.Decides.{nat_tests}
 use borrow.Author.Tests.{eqb-false}
@@ -18,7 +18,7 @@ use Rattle.kc_compose.specs.declared.sort.Sort.{Sort}
 use Rattle.kc_hash.proofs.Chained.{same_cells}
 use Rattle.kc_hash.proofs.HashLaw.{hash_stays}
 use Rattle.kc_hash.proofs.Values.{hash_means}
-use Rattle.kc_hash.specs.Content.{HashStandsFor, found_reply, hash_value, pairs_after, put_value, value_at, with_pair}
+use Rattle.kc_hash.specs.Content.{found_reply, hash_value, pairs_after, put_value, value_at, with_pair}
 use Rattle.kc_hash.specs.Meaning.{hash_cells_end, hash_meaning, hash_program}
 use Rattle.kc_hash.specs.declared.operation.HashOp.{HashOp}
 use Rattle.kc_hash.specs.declared.operation.HashAct.{HashAct}
@@ -30,15 +30,14 @@ use Rattle.kc_queue.specs.Meaning.{queue_cells_end, queue_meaning, queue_program
 use Rattle.kc_queue.specs.declared.operation.QueueOp.{QueueOp}
 use Rattle.kc_sched.specs.Acts.{IsEndOf, await_meaning, found, marked, resolved}
 use Rattle.kc_sched.specs.Jobs.{Jobs, Shows}
-use Rattle.kc_sched.specs.Sched.{IsLaid, end_cell, ends_end}
+use Rattle.kc_sched.specs.Sched.{IsLaid, end_cell}
 use Rattle.kc_sched.specs.declared.sched.Sched.{Sched}
 use Rattle.kc_sched.specs.declared.sched.TheConstants.{JOBS}
 use Rattle.kc_xt.proofs.Stay.{stays_outside}
 use Rattle.kc_xt.proofs.Touching.{map_after-given_up}
-use Rattle.kc_xt.specs.Meaning.{Meaning, Outcome, Run, Touch, map_after, replied, retried, then_meaning, too_large, touched_after}
-use Rattle.kc_xt.specs.Program.{Program, meaning, replies}
-use Rattle.kc_xt.specs.Stays.{Stays}
-use Rattle.kc_xt.specs.Structure.{IsOutside, SameCells, Value}
+use Rattle.kc_xt.specs.Meaning.{Meaning, Outcome, Touch, map_after, replied, retried, then_meaning, too_large, touched_after}
+use Rattle.kc_xt.specs.Program.{replies}
+use Rattle.kc_xt.specs.Structure.{IsOutside}
 
 -- the values that stand there then
 abbrev left : Meaning → ℕ → (ℕ → ℕ) → List ℕ → ℕ → ℕ
@@ -133,11 +132,13 @@ module _ (s : Sched) where
   hash_shows act laid n m ks a x shows e =
       let o : HashOp = record { hash = s.states; act = act } in
       let v = hash_means o x.states n m ks shows.states (fits _ a e) in
-      let kept : (l : ℕ) → s.ends.first.0 ≤ l → left (hash_meaning o) n m ks l ≡ m l = λ l le. stays_outside _ _ (hash_program s.states act replies) (hash_stays o) n m ks l (above l le) in
-      (record {
-        states = v.1;
-        told = λ job lt. place_own (end_cell s job) m (left (hash_meaning o) n m ks) (x.told job) (λ l ge below. sym (kept l (omega (arith, ge)))) (shows.told job lt);
-      }, sym e ∙ v.0)
+      let kept : (l : ℕ) → s.ends.first.0 ≤ l → left (hash_meaning o) n m ks l ≡ m l = λ l le. stays_outside _ _ (hash_program s.states act replies) (hash_stays o) n m ks l (above l le) in (
+        record {
+          states = v.1;
+          told = λ job lt. place_own (end_cell s job) m (left (hash_meaning o) n m ks) (x.told job) (λ l ge below. sym (kept l (omega (arith, ge)))) (shows.told job lt);
+        },
+        sym e ∙ v.0,
+      )
     where
       above : (l : ℕ) → s.ends.first.0 ≤ l → IsOutside s.states.base.0 (hash_cells_end s.states) l
       above l le c ge below q = omega (arith, le, below, q, laid.line, laid.ready, laid.ends)
@@ -184,6 +185,7 @@ module _ (s : Sched) where
     where
       kept : (l : ℕ) → IsOutside end.base.0 (end.base.0 + place_cells) l → left (promise_meaning (op_of end act)) n m ks l ≡ m l
       kept l out = stays_outside _ _ (promise_program end act replies) (promise_stays (op_of end act)) n m ks l out
+
       by_test : (i : ℕ) → i < JOBS → (t : Bool) → (i == job) ≡ t → PlaceHolds (end_cell s i) (left (promise_meaning (op_of end act)) n m ks) (told i)
       by_test i lt true q =
           let same : i ≡ job = grind (arith, nat_tests, q) in

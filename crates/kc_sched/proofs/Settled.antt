@@ -1,5 +1,5 @@
 -- What is settled stays so.
-use Rattle.std.proofs.Common.{◌≡◌, ◌≢◌, ℕ, ◌<◌, List, ◌∷◌, ◌++◌, Some, None, refl, sym, ◌∙◌}
+use Rattle.std.proofs.Common.{◌≡◌, ℕ, Some, refl}
 use Rattle.kc_jobs.specs.declared.state.TheConstants.{CANCELLED, DONE}
 use Rattle.kc_sched.specs.Jobs.{EachGoes, EndsStay, Goes, Job, job_at, comes, ends, is_cancelled, starts, stays}
 use Rattle.kc_sched.specs.declared.sched.Sched.{Sched}

@@ -6,20 +6,19 @@ use borrow.Author.Tests.{eqb-false}
 use Rattle.kc_cells.proofs.OnePlaces.{holds_held}
 use Rattle.kc_cells.specs.Promise.{promise_meaning}
 use Rattle.kc_cells.specs.declared.promise.Promise.{Promise}
-use Rattle.kc_compose.specs.Meaning.{both_meaning, fed_meaning, fed_on, give_meaning, number_said, say_meaning, unless_meaning}
+use Rattle.kc_compose.specs.Meaning.{both_meaning, fed_meaning, fed_on, give_meaning, number_said, say_meaning}
 use Rattle.kc_compose.specs.Sort.{is_of}
 use Rattle.kc_compose.specs.declared.sort.Sort.TheVariants.{Empty, Full, Is}
 use Rattle.kc_hash.proofs.Chained.{shows}
 use Rattle.kc_hash.proofs.FiniteMaps.{value_at-other, value_at-with}
 use Rattle.kc_hash.specs.Content.{found_reply, value_at}
-use Rattle.kc_hash.specs.Meaning.{hash_meaning}
 use Rattle.kc_jobs.specs.declared.state.TheConstants.{CANCELLED, DONE, RUNNING, WAITING}
 use Rattle.kc_model.specs.declared.reply.Reply.{Reply}
 use Rattle.kc_model.specs.declared.reply.Reply.TheVariants as reply
 use Rattle.kc_queue.specs.Meaning.{queue_meaning}
 use Rattle.kc_queue.specs.declared.operation.QueueOp.{QueueOp}
 use Rattle.kc_sched.proofs.Leads.{Leads, Marks, Same, first_told, leads_await, leads_give, leads_mark, leads_more, leads_queue, leads_resolve, leads_say, leads_then, leads_wait, leads_when, with_state, with_told}
-use Rattle.kc_sched.specs.Acts.{IsAct, IsEndOf, await_meaning, begin_meaning, cancel_meaning, end_meaning, enter_meaning, into_line_meaning, mark_meaning, move_meaning, release_meaning, start_meaning, entering, cancelling, releasing, starting, ending, awaiting, marked, put_in, resolved, taken}
+use Rattle.kc_sched.specs.Acts.{IsAct, IsEndOf, await_meaning, begin_meaning, cancel_meaning, end_meaning, enter_meaning, into_line_meaning, mark_meaning, move_meaning, release_meaning, start_meaning, entering, cancelling, releasing, starting, ending, awaiting, put_in, resolved, taken}
 use Rattle.kc_sched.specs.Jobs.{AreJobs, EachGoes, Goes, HasJobs, IsJob, Job, Jobs, Shows, job_at, comes, ends, is_cancelled, job_in, job_of, starts, stays, unknown, waits, runs, cancelled, done}
 use Rattle.kc_sched.specs.Sched.{IsLaid, end_cell}
 use Rattle.kc_sched.specs.declared.sched.Sched.{Sched}
@@ -191,6 +190,7 @@ at_in s m x job shown lt = ap₂ job_of (ap (λ ps. value_at ps job) (shows s.st
 
 pub act_goes : (s : Sched) (p : Meaning) → IsAct s p → (n : ℕ) (m : ℕ → ℕ) (ks : List ℕ) (a : Reply) → HasJobs s m → (p n m ks).outcome ≡ replied a → HasJobs s (map_after m (p n m ks).touches) × EachGoes s m (map_after m (p n m ks).touches)
 act_goes s p act n m ks a (laid, x, shown, are) e =
-    let l = leads_act s laid p act n m ks a x shown e in
-    ((laid, l.0, l.1, λ job lt. goes_is (job_in x job) (job_in l.0 job) (are job lt) (l.2 are job lt)),
-    λ job lt. subst (Goes (job_at s m job)) (sym (at_in s (map_after m (p n m ks).touches) l.0 job l.1 lt)) (subst (λ j. Goes j (job_in l.0 job)) (sym (at_in s m x job shown lt)) (l.2 are job lt)))
+    let l = leads_act s laid p act n m ks a x shown e in (
+      (laid, l.0, l.1, λ job lt. goes_is (job_in x job) (job_in l.0 job) (are job lt) (l.2 are job lt)),
+      λ job lt. subst (Goes (job_at s m job)) (sym (at_in s (map_after m (p n m ks).touches) l.0 job l.1 lt)) (subst (λ j. Goes j (job_in l.0 job)) (sym (at_in s m x job shown lt)) (l.2 are job lt)),
+    )

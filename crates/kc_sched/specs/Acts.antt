@@ -16,7 +16,6 @@ use Rattle.kc_hash.specs.declared.hash.Hash.{Hash}
 use Rattle.kc_hash.specs.declared.operation.HashAct.TheVariants as hash
 use Rattle.kc_hash.specs.declared.operation.HashOp.{HashOp}
 use Rattle.kc_jobs.specs.declared.state.TheConstants.{CANCELLED, DONE, RUNNING, WAITING}
-use Rattle.kc_model.specs.declared.reply.Reply.{Reply}
 use Rattle.kc_model.specs.declared.reply.Reply.TheVariants as reply
 use Rattle.kc_queue.specs.Meaning.{queue_meaning}
 use Rattle.kc_queue.specs.declared.operation.QueueAct.TheVariants as queue

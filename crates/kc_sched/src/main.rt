@@ -16,7 +16,10 @@ use std::io;
 fn main(rt: HostRuntime) -> io::Result<()> {
     let (sched, layout) = lay_sched(rt.alloc())?;
     let (_past, [told, one, two]) = run_sched(&rt, rt.alloc(), &sched, &layout)?;
-    let settled = told.settled.wrapping_add(one.settled).wrapping_add(two.settled);
+    let settled = told
+        .settled
+        .wrapping_add(one.settled)
+        .wrapping_add(two.settled);
     println!(rt; "jobs submitted: {}", told.submitted)?;
     println!(rt; "ends told: {}", told.told)?;
     println!(rt; "cancelled or done: {settled}")?;

@@ -1,6 +1,6 @@
 //! Four threads share the scheduler, and what is left.
 
-ghost use Rattle.std.specs.Prelude.{◌≡◌, ◌≤◌, [], ◌∷◌, IfOk, length, replicate};
+ghost use Rattle.std.specs.Prelude.{◌≡◌, [], ◌∷◌, IfOk, length, replicate};
 ghost use Rattle.kc_sched.specs.Sched.{IsLaid, OpensSo};
 ghost use Rattle.kc_sched.specs.Serving.{HasSched, HaveServed, IsScheduled, Serves};
 ghost use Rattle.kc_store.specs.Knows.{OpensWith};
@@ -57,9 +57,7 @@ pub fn run_sched<R: Threads + Wait + Sync>(
         move || ask(rt, shared, client, sched),
         move ||
             requires { (clock.of ≡ shared.now) × (first.of ≡ shared.now) × (second.of ≡ shared.now) × HasSched sched.now shared.now.locations }
-        {
-            tick_and_work(rt, shared, clock, first, second, sched)
-        },
+        { tick_and_work(rt, shared, clock, first, second, sched) },
     );
     let callers = gather(alloc, client, clock, first, second)?;
     let past = finish_all(sched, layout, store, callers);
@@ -112,9 +110,7 @@ fn tick_and_work<R: Threads + Wait + Sync>(
         move || tick(rt, store, clock, sched),
         move ||
             requires { (first.of ≡ store.now) × (second.of ≡ store.now) × HasSched sched.now store.now.locations }
-        {
-            work_by_two(rt, store, first, second, sched)
-        },
+        { work_by_two(rt, store, first, second, sched) },
     )
 }
 

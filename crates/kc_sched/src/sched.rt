@@ -1,9 +1,7 @@
 //! A scheduler, and where its parts lie.
 
-ghost use Rattle.std.specs.Prelude.{◌≡◌, ◌<◌, ◌≤◌, ◌+◌, ◌*◌, IfOk, length};
+ghost use Rattle.std.specs.Prelude.{◌≡◌, ◌<◌, ◌+◌, ◌*◌, IfOk};
 ghost use Rattle.kc_cells.specs.OnePlace.{place_opening};
-ghost use Rattle.kc_hash.specs.Content.{hash_opening};
-ghost use Rattle.kc_model.specs.declared.plain_store.TheConstants.{MOST_LOCATIONS};
 ghost use Rattle.kc_sched.specs.Sched.{IsLaid, OpensSo};
 
 use kc_cells::Promise;

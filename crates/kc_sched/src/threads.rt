@@ -99,7 +99,13 @@ pub fn tick<R: Wait>(rt: &R, store: &Store, mut clock: Caller, sched: &Sched) ->
 {
     serves_on(sched);
     for _ in 0..JOBS {
-        commit(rt, store, &mut clock, sched, &release_job(sched.line, sched.ready));
+        commit(
+            rt,
+            store,
+            &mut clock,
+            sched,
+            &release_job(sched.line, sched.ready),
+        );
     }
     clock
 }
@@ -118,13 +124,7 @@ pub fn work<R: Wait>(rt: &R, store: &Store, mut worker: Caller, sched: &Sched) -
     (worker, tally)
 }
 
-fn one_job<R: Wait>(
-    rt: &R,
-    store: &Store,
-    worker: &mut Caller,
-    sched: &Sched,
-    tally: &mut Tally,
-)
+fn one_job<R: Wait>(rt: &R, store: &Store, worker: &mut Caller, sched: &Sched, tally: &mut Tally)
     requires worker { worker.old.of ≡ store.now }
     requires sched { HasSched sched.now store.now.locations }
     ensures { Serves sched.now worker.old worker.new }
