@@ -1,0 +1,4 @@
+pub mod Sched
+pub mod Jobs
+pub mod Acts
+pub mod Serving

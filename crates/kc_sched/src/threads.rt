@@ -1,0 +1,142 @@
+//! What the threads do: a client, a clock and two workers.
+
+ghost use Rattle.std.specs.Prelude.{◌≡◌, ◌<◌};
+ghost use Rattle.kc_sched.specs.Serving.{HasSched, Serves};
+
+use crate::acting::{commit, serves_on};
+use crate::acts::{end_running_job, enter_job};
+use crate::sched::{JOBS, Sched};
+use kc_cells::{PromiseAct, PromiseOp};
+use kc_jobs::{cancel_job, release_job, start_job};
+use kc_model::Reply;
+use kc_store::{Caller, Store};
+use std::sync::Wait;
+
+/// What a thread counted.
+#[derive(Clone, Copy)]
+pub struct Tally {
+    /// Jobs that it submitted.
+    pub submitted: u32,
+    /// Jobs that it cancelled, or ended.
+    pub settled: u32,
+    /// Ends that it was told.
+    pub told: u32,
+    /// The sum of the results that it was told, and of those that a cancelled job would have had.
+    pub results: u32,
+}
+
+impl Tally {
+    fn new() -> Tally {
+        Tally {
+            submitted: 0,
+            settled: 0,
+            told: 0,
+            results: 0,
+        }
+    }
+}
+
+// A job's result, which isn't 0.
+fn result_of(job: u32) -> u32 {
+    job.wrapping_mul(job).wrapping_add(1)
+}
+
+/// Submits all jobs, and cancels each second one, if it still waits. Then it waits for each job's end.
+pub fn ask<R: Wait>(rt: &R, store: &Store, mut client: Caller, sched: &Sched) -> (Caller, Tally)
+    requires client { client.of ≡ store.now }
+    requires sched { HasSched sched.now store.now.locations }
+    ensures { Serves sched.now client result.0 }
+{
+    serves_on(sched);
+    let mut tally = Tally::new();
+    for job in 0..JOBS {
+        submit(rt, store, &mut client, sched, job, &mut tally);
+    }
+    for job in 0..JOBS {
+        let end = PromiseOp {
+            promise: sched.end_of(job),
+            act: PromiseAct::Await,
+        };
+        if let Some(Reply::Value(result)) = commit(rt, store, &mut client, sched, &end) {
+            let full = if result == 0 { result_of(job) } else { result };
+            tally.told = tally.told.wrapping_add(1);
+            tally.results = tally.results.wrapping_add(full);
+        }
+    }
+    (client, tally)
+}
+
+fn submit<R: Wait>(
+    rt: &R,
+    store: &Store,
+    client: &mut Caller,
+    sched: &Sched,
+    job: u32,
+    tally: &mut Tally,
+)
+    requires client { client.old.of ≡ store.now }
+    requires sched { HasSched sched.now store.now.locations }
+    requires job { job < JOBS }
+    ensures { Serves sched.now client.old client.new }
+{
+    serves_on(sched);
+    if commit(rt, store, client, sched, &enter_job(sched, job)) == Some(Reply::Unit) {
+        tally.submitted = tally.submitted.wrapping_add(1);
+    }
+    if job % 2 == 1 {
+        let cancel = cancel_job(sched.states, sched.end_of(job), job);
+        if commit(rt, store, client, sched, &cancel) == Some(Reply::Unit) {
+            tally.settled = tally.settled.wrapping_add(1);
+        }
+    }
+}
+
+/// Lets as many jobs run as there are, one after another.
+pub fn tick<R: Wait>(rt: &R, store: &Store, mut clock: Caller, sched: &Sched) -> Caller
+    requires clock { clock.of ≡ store.now }
+    requires sched { HasSched sched.now store.now.locations }
+    ensures { Serves sched.now clock result }
+{
+    serves_on(sched);
+    for _ in 0..JOBS {
+        commit(
+            rt,
+            store,
+            &mut clock,
+            sched,
+            &release_job(sched.line, sched.ready),
+        );
+    }
+    clock
+}
+
+/// Takes half of the jobs, and ends each that it could start.
+pub fn work<R: Wait>(rt: &R, store: &Store, mut worker: Caller, sched: &Sched) -> (Caller, Tally)
+    requires worker { worker.of ≡ store.now }
+    requires sched { HasSched sched.now store.now.locations }
+    ensures { Serves sched.now worker result.0 }
+{
+    serves_on(sched);
+    let mut tally = Tally::new();
+    for _ in 0..JOBS / 2 {
+        one_job(rt, store, &mut worker, sched, &mut tally);
+    }
+    (worker, tally)
+}
+
+fn one_job<R: Wait>(rt: &R, store: &Store, worker: &mut Caller, sched: &Sched, tally: &mut Tally)
+    requires worker { worker.old.of ≡ store.now }
+    requires sched { HasSched sched.now store.now.locations }
+    ensures { Serves sched.now worker.old worker.new }
+{
+    serves_on(sched);
+    let start = start_job(sched.ready, sched.states);
+    if let Some(Reply::Value(job)) = commit(rt, store, worker, sched, &start) {
+        if job < JOBS {
+            let end = end_running_job(sched, sched.end_of(job), job, result_of(job));
+            if commit(rt, store, worker, sched, &end) == Some(Reply::Unit) {
+                tally.settled = tally.settled.wrapping_add(1);
+            }
+        }
+    }
+}
