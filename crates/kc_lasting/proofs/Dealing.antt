@@ -5,13 +5,13 @@ use Rattle.std.proofs.lemmas.List.Elements.{All-cons}
 use Rattle.kc_lasting.specs.declared.client.Fresh.{Fresh}
 use Rattle.kc_store.specs.Views.{CallerView, StoreView, opened_caller, opened_callers}
 
--- it is of this store, and of so many locations
-abbrev pub IsOf : StoreView → ℕ → Fresh → Type 0
-IsOf z locations c = (c.client.caller.of ≡ z) × (c.client.locations ≡ locations)
+-- it is of this store
+abbrev pub IsOf : StoreView → Fresh → Type 0
+IsOf z c = c.client.caller.of ≡ z
 
-pub record Deals (z store : StoreView) (locations : ℕ) (given : List Fresh) (rest : List CallerView) : Type 0 where
+pub record Deals (z store : StoreView) (given : List Fresh) (rest : List CallerView) : Type 0 where
   pub era : store ≡ z
-  pub given_are : All (IsOf z locations) given
+  pub given_are : All (IsOf z) given
   pub rest_are : All (λ (c : CallerView). c.of ≡ z) rest
   pub new : All (λ (c : CallerView). c.own ≡ []) rest
 

@@ -12,15 +12,15 @@ use Rattle.kc_store.specs.kc_machine_traces.Traces.{first_store}
 
 -- ---- two fronts of one schedule
 
-fronts : (as bs r s : List Event) → as ++ r ≡ bs ++ s → IsPrefix as bs ⊎ IsPrefix bs as
-fronts [] bs r s e = inl (bs, refl)
-fronts (a ∷ as) [] r s e = inr (a ∷ as, refl)
-fronts (a ∷ as) (b ∷ bs) r s e = go (fronts as bs r s cc)
+fronts : (xs ys r s : List Event) → xs ++ r ≡ ys ++ s → IsPrefix xs ys ⊎ IsPrefix ys xs
+fronts [] ys r s e = inl (ys, refl)
+fronts (a ∷ xs) [] r s e = inr (a ∷ xs, refl)
+fronts (a ∷ xs) (b ∷ ys) r s e = go (fronts xs ys r s cc)
   where
     first : a ≡ b
     first = cc
 
-    go : IsPrefix as bs ⊎ IsPrefix bs as → IsPrefix (a ∷ as) (b ∷ bs) ⊎ IsPrefix (b ∷ bs) (a ∷ as)
+    go : IsPrefix xs ys ⊎ IsPrefix ys xs → IsPrefix (a ∷ xs) (b ∷ ys) ⊎ IsPrefix (b ∷ ys) (a ∷ xs)
     go (inl (rest, p)) = let f = first in inl (rest, cc)
     go (inr (rest, p)) = let f = first in inr (rest, cc)
 

@@ -1,5 +1,5 @@
 -- What a caller has learned of the end of its era.
-use Rattle.std.proofs.Common.{◌≡◌, ◌≢◌, ◌<◌, ◌≤◌, ◌++◌, ℕ, List, [], ◌∷◌, get_or, length, map, refl, sym, ap, ◌∙◌, arith, subst}
+use Rattle.std.proofs.Common.{◌≡◌, ◌≢◌, ◌<◌, ◌≤◌, ◌++◌, ℕ, suc, List, [], ◌∷◌, get_or, length, map, refl, sym, ap, ◌∙◌, arith, subst}
 use Rattle.std.proofs.Math.Logic.{∥∥₁_map}
 use Rattle.std.specs.Prelude.{Contains}
 use Rattle.kc_hang.specs.kc_table_views.Known.{IsPrefix}
@@ -37,28 +37,28 @@ module _ (z : StoreView) (c w : CallerView) (n : NoteView) (versions : List ℕ)
     cut = lr.note.cut;
   }
 
-  module _ (s : CallerView) (g flag : ℕ) (f : Footprint) (has : ∥ HasSeen g flag s c ∥₁) (within : g < length versions) (high : flag < get_or versions g 0) where
+  module _ (s : CallerView) (g flag k : ℕ) (f : Footprint) (has : ∥ HasSeen g flag s c ∥₁) (within : g < length versions) (high : flag < get_or versions g k) where
     stood : StandsBefore z s.own (part z c w n versions lr)
     stood = record {
       cells = lr.note.cut.cells;
       cut = lr.note.cut.cut;
-      all = ∥∥₁_map has (λ h. early z c w n versions lr s g flag 0 h (omega (arith, within, len)) high);
+      all = ∥∥₁_map has (λ h. early z c w n versions lr s g flag k h (omega (arith, within, len)) high);
     }
 
     counts : PutsBelow f versions → CountsIn (part z c w n versions lr) s.own c f
-    counts p k own = ∣ is_before z c w n versions lr (entry_of c.number k f) p.at 0 p.put (subst (λ (es : List Entry). Contains es (entry_of c.number k f)) (sym own) (last_in s.own (entry_of c.number k f))) p.puts (let a = p.within in omega (arith, a, len)) p.below ∣₁
+    counts p j own = ∣ is_before z c w n versions lr (entry_of c.number j f) p.at 0 p.put (subst (λ (es : List Entry). Contains es (entry_of c.number j f)) (sym own) (last_in s.own (entry_of c.number j f))) p.puts (let a = p.within in omega (arith, a, len)) p.below ∣₁
 
     away : (f.puts.items ≢ [] → PutsAbove f versions) → IsCutAway (part z c w n versions lr) s.own c f
-    away p k own some = let a = p some in is_behind z c w n versions lr (entry_of c.number k f) a.at 0 a.put a.puts (let b = a.within in omega (arith, b, len)) a.above
+    away p j own some = let a = p some in is_behind z c w n versions lr (entry_of c.number j f) a.at 0 a.put a.puts (let b = a.within in omega (arith, b, len)) a.above
 
     pub learned : (a : Side) (t : CallerView) → c.of ≡ z → IsSideOf a f versions → Stays c s w t → IsLearned a c s f w t
-    learned side.Open t of no stays = no
+    learned side.Open t of never stays = never
     learned side.Before t of p stays = (stays, (part z c w n versions lr, subst (λ (y : StoreView). StandsBefore y s.own (part z c w n versions lr)) (sym of) stood, counts p))
     learned side.Behind t of p stays = (stays, (part z c w n versions lr, subst (λ (y : StoreView). StandsBefore y s.own (part z c w n versions lr)) (sym of) stood, away p))
     learned side.Unknown t of p stays = stays
 
 pub settled_so : (a : Side) (c s : CallerView) (f : Footprint) (d t : CallerView) → IsLearned a c s f d t → IsSettled a c s f d t
-settled_so side.Open c s f d t no = absurd no
+settled_so side.Open c s f d t never = absurd never
 settled_so side.Before c s f d t l = l
 settled_so side.Behind c s f d t l = l
 settled_so side.Unknown c s f d t l = l

@@ -10,3 +10,4 @@ pub mod Holding
 pub mod Learning
 pub mod GoingOver
 pub mod Firsts
+pub mod Telling

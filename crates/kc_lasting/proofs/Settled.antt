@@ -1,5 +1,5 @@
 -- On which side of a cut the last entry of a caller stands that has learned the cut; and that all before stands there.
-use Rattle.std.proofs.Common.{◌≡◌, ◌<◌, ◌≤◌, ◌==◌, ◌⊎◌, inl, inr, Bool, true, false, cond, ℕ, ◌++◌, List, [], ◌∷◌, map, get_or, length, refl, sym, ap, ◌∙◌, arith, subst, Some}
+use Rattle.std.proofs.Common.{◌≡◌, ◌<◌, ◌≤◌, ◌==◌, ◌⊎◌, inl, inr, Bool, true, false, cond, ℕ, zero, suc, ◌++◌, List, [], ◌∷◌, map, get_or, length, refl, sym, ap, ◌∙◌, arith, subst, Some}
 use Rattle.std.proofs.lemmas.List.{append_assoc}
 use Rattle.std.specs.Prelude.{Contains}
 use Rattle.kc_hang.proofs.kc_table_views.Knowing.{grows_on, legal_known}
@@ -52,10 +52,10 @@ later_within true e fs gs w = later w
 later_within false e fs gs w = w
 
 -- what stands within stands so of each caller
-pub own_grows : {k : ℕ} {a b : List Entry} → IsWithin a b → IsWithin (entries_of k a) (entries_of k b)
-own_grows none = none
-own_grows {k} (here {e} {a} {b} w) = both_within (e.caller == k) e (entries_of k a) (entries_of k b) (own_grows w)
-own_grows {k} (later {e} {a} {b} w) = later_within (e.caller == k) e (entries_of k a) (entries_of k b) (own_grows w)
+pub own_grows : (k : ℕ) {a b : List Entry} → IsWithin a b → IsWithin (entries_of k a) (entries_of k b)
+own_grows k none = none
+own_grows k (here {e} {a} {b} w) = both_within (e.caller == k) e (entries_of k a) (entries_of k b) (own_grows k w)
+own_grows k (later {e} {a} {b} w) = later_within (e.caller == k) e (entries_of k a) (entries_of k b) (own_grows k w)
 
 put_what_they_read : (h : History) → ((x : Placed) → Contains h x → PutsWhatItReads x.entry.footprint) → PutWhatTheyRead (entries h)
 put_what_they_read [] all e c = nothing_in e c
@@ -67,7 +67,7 @@ put_what_they_read (x ∷ h) all e c = go (first_or_later x.entry (entries h) e 
 
 mapped_at : (rs : List Seen) (i k : ℕ) (d : Seen) → i < length rs → get_or (map (λ (r : Seen). r.version) rs) i k ≡ (get_or rs i d).version
 mapped_at [] i k d lt = absurd (omega (arith, lt))
-mapped_at (r ∷ rs) 0 k d lt = refl
+mapped_at (r ∷ rs) zero k d lt = refl
 mapped_at (r ∷ rs) (suc i) k d lt = mapped_at rs i k d (omega (arith, lt))
 
 -- ---- the cut
@@ -110,7 +110,7 @@ module _ (z : StoreView) (c w : CallerView) (n : NoteView) (versions : List ℕ)
   part_is : part ≡ entries (known o lr.note.past)
   part_is = ap (λ (y : StoreView). entries (known (opening_of y.table.origin) lr.note.past)) same
 
-  cut_goes_on : IsPrefix lr.note.past w.seat.past
+  pub cut_goes_on : IsPrefix lr.note.past w.seat.past
   cut_goes_on = prefix_then lr.note.past n.note.past w.seat.past lr.note.within lr.joined.told
 
   whole_is : w.known ≡ entries (known o w.seat.past)

@@ -153,7 +153,7 @@ within_contains (y ∷ a) (z ∷ b) x (here w) c = go (first_or_later y a x c) (
     go (inr c) ih = Contains-later y b x (ih c)
 within_contains (y ∷ a) (z ∷ b) x (later w) c = Contains-later z b x (within_contains (y ∷ a) b x w c)
 
-all_at : (p : ℕ → Seen → Type 0) (k i : ℕ) (rs : List Seen) (d : Seen) → i < length rs → AllFrom p k rs → p (k + i) (get_or rs i d)
+pub all_at : (p : ℕ → Seen → Type 0) (k i : ℕ) (rs : List Seen) (d : Seen) → i < length rs → AllFrom p k rs → p (k + i) (get_or rs i d)
 all_at p k i [] d lt all = absurd (omega (arith, lt))
 all_at p k zero (r ∷ rs) d lt all = subst (λ (n : ℕ). p n r) (omega arith) all.0
 all_at p k (suc i) (r ∷ rs) d lt all = subst (λ (n : ℕ). p n (get_or rs i d)) (omega arith) (all_at p (suc k) i rs d (omega (arith, lt)) all.1)

@@ -212,10 +212,11 @@ impl Client {
         let end = *locations;
         let hang = with_flag(footprint, Loc(end), *flag);
         let reads = hang.reads.as_slice();
-        if !reads.is_empty() && reads.iter().all(|read| read.loc.0 <= end) {
+        if reads.is_empty() {
+            return thread::yield_now();
+        }
+        if reads.iter().all(|read| read.loc.0 <= end) {
             era.store.wait_for_a_change(rt, caller, &hang);
-        } else {
-            thread::yield_now();
         }
     }
 }

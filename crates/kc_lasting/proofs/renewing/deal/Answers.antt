@@ -21,7 +21,7 @@ loop-caller-preserved c =
     let one : c.of.result.client.caller.of ≡ z = ap (λ (x : CallerView). x.of) c.of.ensures.caller ∙ All-head (λ (x : CallerView). x.of ≡ z) _ _ rest in
     record {
       era = inv.era;
-      given_are = All-same (IsOf z c.args.locations) _ _ items (All-push (IsOf z c.args.locations) c.loop-caller.clients.items c.of.result inv.given_are (one, c.of.ensures.size));
+      given_are = All-same (IsOf z) _ _ items (All-push (IsOf z) c.loop-caller.clients.items c.of.result inv.given_are one);
       rest_are = All-tail (λ (x : CallerView). x.of ≡ z) c.in-Some.caller c.next.new.self.rest.items rest;
       new = All-tail (λ (x : CallerView). x.own ≡ []) c.in-Some.caller c.next.new.self.rest.items new;
     }

@@ -11,3 +11,9 @@ deal-requires-clause-of c = subst (λ (cs : List CallerView). All (λ (x : Calle
 
 pub deal-requires-clause-new : goal.deal-requires-clause-new
 deal-requires-clause-new c = subst (λ (cs : List CallerView). All (λ (x : CallerView). x.own ≡ []) cs) (sym c.in_ok-store.ensures.ok.1) (all_new c.in_ok-store.store 0 c.args.callers)
+
+pub returns : goal.returns
+returns c =
+    let z = c.in_ok-store.store in
+    let kept : c.in-Some.fresh.client.caller.of ≡ z = (All-pop (IsOf z) c.in_ok-clients.clients.items c.pop.new.self.items (Some c.in-Some.fresh) c.in-Some.ensures.items c.in_ok-clients.ensures).1 in
+    subst (OpensOn c.args.values.now) (sym kept) (record { versions = _; callers = c.args.callers; opens = c.in_ok-store.ensures.opens })
