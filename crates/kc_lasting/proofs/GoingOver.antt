@@ -8,6 +8,7 @@ use Rattle.kc_lasting.proofs.Sides.{within_contains}
 use Rattle.kc_lasting.specs.Cuts.{IsCut}
 use Rattle.kc_lasting.specs.Ends.{HasSeen}
 use Rattle.kc_lasting.specs.Settled.{CountsIn, IsCutAway, StandsBefore, Stays}
+use Rattle.kc_lasting.specs.declared.client.Client.{Client}
 use Rattle.kc_lasting.specs.Told.{Counts, CutAway, GoesOver, Judged, PutsNothing}
 use Rattle.kc_model.specs.declared.footprint.Entry.{Entry}
 use Rattle.kc_model.specs.declared.footprint.Footprint.{Footprint}
@@ -98,3 +99,6 @@ stays_first c s = record { learns = learns_same c; seen = refl }
 
 pub stays_on : (c s d t e u : CallerView) → Stays c s d t → Stays d t e u → Stays c s e u
 stays_on c s d t e u a b = record { learns = learns_on c d e a.learns b.learns; seen = b.seen ∙ a.seen }
+
+pub kept : (v t s x y : Client) → Stays v.caller v.seen.value t.caller t.seen.value × (t.locations ≡ v.locations) → Stays t.caller t.seen.value s.caller s.seen.value → s.locations ≡ t.locations → (x.caller ≡ s.caller) × (x.seen.value ≡ s.seen.value) → x.locations ≡ s.locations → y ≡ x → Stays v.caller v.seen.value y.caller y.seen.value × (y.locations ≡ v.locations)
+kept v t s x y i st size same xs is = subst (λ (z : Client). Stays v.caller v.seen.value z.caller z.seen.value × (z.locations ≡ v.locations)) (sym is) (record { learns = subst (λ (d : CallerView). OnlyLearns v.caller d) (sym same.0) (learns_on v.caller t.caller s.caller i.0.learns st.learns); seen = same.1 ∙ st.seen ∙ i.0.seen }, xs ∙ size ∙ i.1)

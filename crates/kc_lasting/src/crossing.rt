@@ -59,6 +59,7 @@ pub(crate) fn stands<R: Wait>(
     ensures all { client.new.seen.value.own ≡ client.new.caller.own }
     ensures size { client.new.locations ≡ client.old.locations }
 {
+    client.caller.shows();
     if client.is_open(rt) {
         if place.left > 0 && !worn {
             place.left -= 1;

@@ -117,6 +117,7 @@ impl Client {
     // Puts the flag, and finds what stands at one moment behind that. Answers what it knew then, and what it knows now.
     fn cut_off<R: Wait>(&mut self, rt: &R, cells: &mut [Seen]) -> (Note, Note)
         requires size { length cells.old ≡ self.old.locations + 1 }
+        ensures size { length cells.new ≡ length cells.old }
         ensures of { self.new.caller.of ≡ self.old.caller.of }
         ensures note { result.0.of ≡ self.old.caller.of }
         ensures cut { IsCut result.0.of result.0.known cells.new }
