@@ -1,0 +1,6 @@
+pub mod Cuts
+pub mod Eras
+pub mod Ends
+pub mod Sides
+pub mod Settled
+pub mod Told
