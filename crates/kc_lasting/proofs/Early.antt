@@ -1,5 +1,5 @@
 -- Who saw that a location had not been put yet knew no more than who knows of the put.
-use Rattle.std.proofs.Common.{◌≡◌, ◌<◌, ◌≤◌, ◌⊎◌, inl, inr, ℕ, ◌++◌, List, [], ◌∷◌, refl, sym, ap, ◌∙◌, arith, subst}
+use Rattle.std.proofs.Common.{◌≡◌, ◌<◌, ◌≤◌, ◌⊎◌, inl, inr, ℕ, ◌++◌, List, [], ◌∷◌, refl, sym, ◌∙◌, arith, subst}
 use Rattle.kc_hang.proofs.kc_machine_traces.Joins.{honest_parts, made_parts}
 use Rattle.kc_hang.proofs.kc_table_views.Knowing.{grows_on, versions_on}
 use Rattle.kc_hang.specs.kc_machine.Machine.{Opening}

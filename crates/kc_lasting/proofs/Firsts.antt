@@ -1,5 +1,5 @@
 -- The first put of a footprint.
-use Rattle.std.proofs.Common.{◌≡◌, ◌<◌, ◌==◌, Bool, true, ℕ, cond, List, [], ◌∷◌, Option, Some, get_or, length, refl, ap, arith}
+use Rattle.std.proofs.Common.{◌≡◌, ◌<◌, Bool, cond, List, [], ◌∷◌, Some, get_or, length, refl, ap, arith}
 use Rattle.std.proofs.Common.{eq-eqb}
 use Rattle.kc_model.specs.Footprint.{put_at}
 use Rattle.kc_model.specs.declared.footprint.Put.{Put}

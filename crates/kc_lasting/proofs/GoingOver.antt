@@ -1,5 +1,5 @@
 -- A handle that goes over to another era, or stays.
-use Rattle.std.proofs.Common.{◌≡◌, ◌≢◌, ◌⊎◌, inl, inr, ◌++◌, Bool, true, false, not, ℕ, List, [], ◌∷◌, refl, sym, ap, ◌∙◌, subst}
+use Rattle.std.proofs.Common.{◌≡◌, inr, ◌++◌, Bool, true, false, not, ℕ, List, [], ◌∷◌, refl, sym, ap, ◌∙◌, subst}
 use Rattle.std.proofs.Math.Logic.{∥∥₁_map, ∥∥₁_map₂}
 use Rattle.std.specs.Prelude.{Contains}
 use Rattle.kc_lasting.proofs.Learning.{last_in}
@@ -7,9 +7,9 @@ use Rattle.kc_lasting.proofs.Settled.{own_grows}
 use Rattle.kc_lasting.proofs.Sides.{within_contains}
 use Rattle.kc_lasting.specs.Cuts.{IsCut}
 use Rattle.kc_lasting.specs.Ends.{HasSeen}
-use Rattle.kc_lasting.specs.Settled.{CountsIn, IsCutAway, StandsBefore, Stays}
+use Rattle.kc_lasting.specs.Settled.{CountsIn, IsCutAway, StandsBefore, StaysAsSeen}
 use Rattle.kc_lasting.specs.declared.client.Client.{Client}
-use Rattle.kc_lasting.specs.Told.{Counts, CutAway, GoesOver, Judged, PutsNothing}
+use Rattle.kc_lasting.specs.Told.{Counts, CutAway, GoesOver, Judged, AddsNoPuts}
 use Rattle.kc_model.specs.declared.footprint.Entry.{Entry}
 use Rattle.kc_model.specs.declared.footprint.Footprint.{Footprint}
 use Rattle.kc_store.proofs.Remembering.{entries_by, entries_within, learns_on, learns_same, within_on}
@@ -72,7 +72,7 @@ module _ (g flag : ℕ) (s b c d : CallerView) (f : Footprint) (shows : b ≡ ca
   pub counts_all : GoesOver b.own c d → Counts s.own b f d
   counts_all o = inr (over o, λ n is. ∥∥₁_map o.stands.all (λ w. within_contains b.own o.part (entry_of b.number n f) w (subst (λ (es : List Entry). Contains es (entry_of b.number n f)) (sym is) (last_in s.own (entry_of b.number n f)))))
 
-  pub judged_all : (worn : Bool) → (worn ≡ true → PutsNothing s.own b f) → GoesOver b.own c d → Judged (not worn) s.own b f d
+  pub judged_all : (worn : Bool) → (worn ≡ true → AddsNoPuts s.own b f) → GoesOver b.own c d → Judged (not worn) s.own b f d
   judged_all true nothing o = (over o, λ n is some. absurd (some (nothing refl n is)))
   judged_all false nothing o = counts_all o
 
@@ -94,11 +94,11 @@ module _ (own before : List Entry) (b c d : CallerView) (f : Footprint) (l : Onl
 
 -- ---- rounds in which nothing comes of it
 
-pub stays_first : (c s : CallerView) → Stays c s c s
+pub stays_first : (c s : CallerView) → StaysAsSeen c s c s
 stays_first c s = record { learns = learns_same c; seen = refl }
 
-pub stays_on : (c s d t e u : CallerView) → Stays c s d t → Stays d t e u → Stays c s e u
+pub stays_on : (c s d t e u : CallerView) → StaysAsSeen c s d t → StaysAsSeen d t e u → StaysAsSeen c s e u
 stays_on c s d t e u a b = record { learns = learns_on c d e a.learns b.learns; seen = b.seen ∙ a.seen }
 
-pub kept : (v t s x y : Client) → Stays v.caller v.seen.value t.caller t.seen.value × (t.locations ≡ v.locations) → Stays t.caller t.seen.value s.caller s.seen.value → s.locations ≡ t.locations → (x.caller ≡ s.caller) × (x.seen.value ≡ s.seen.value) → x.locations ≡ s.locations → y ≡ x → Stays v.caller v.seen.value y.caller y.seen.value × (y.locations ≡ v.locations)
-kept v t s x y i st size same xs is = subst (λ (z : Client). Stays v.caller v.seen.value z.caller z.seen.value × (z.locations ≡ v.locations)) (sym is) (record { learns = subst (λ (d : CallerView). OnlyLearns v.caller d) (sym same.0) (learns_on v.caller t.caller s.caller i.0.learns st.learns); seen = same.1 ∙ st.seen ∙ i.0.seen }, xs ∙ size ∙ i.1)
+pub kept : (v t s x y : Client) → StaysAsSeen v.caller v.seen.value t.caller t.seen.value × (t.locations ≡ v.locations) → StaysAsSeen t.caller t.seen.value s.caller s.seen.value → s.locations ≡ t.locations → (x.caller ≡ s.caller) × (x.seen.value ≡ s.seen.value) → x.locations ≡ s.locations → y ≡ x → StaysAsSeen v.caller v.seen.value y.caller y.seen.value × (y.locations ≡ v.locations)
+kept v t s x y i st size same xs is = subst (λ (z : Client). StaysAsSeen v.caller v.seen.value z.caller z.seen.value × (z.locations ≡ v.locations)) (sym is) (record { learns = subst (λ (d : CallerView). OnlyLearns v.caller d) (sym same.0) (learns_on v.caller t.caller s.caller i.0.learns st.learns); seen = same.1 ∙ st.seen ∙ i.0.seen }, xs ∙ size ∙ i.1)

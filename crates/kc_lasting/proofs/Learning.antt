@@ -1,14 +1,13 @@
 -- What a caller has learned of the end of its era.
-use Rattle.std.proofs.Common.{◌≡◌, ◌≢◌, ◌<◌, ◌≤◌, ◌++◌, ℕ, suc, List, [], ◌∷◌, get_or, length, map, refl, sym, ap, ◌∙◌, arith, subst}
+use Rattle.std.proofs.Common.{◌≡◌, ◌≢◌, ◌<◌, ◌++◌, ℕ, suc, List, [], ◌∷◌, get_or, length, map, refl, sym, ap, ◌∙◌, arith, subst}
 use Rattle.std.proofs.Math.Logic.{∥∥₁_map}
 use Rattle.std.specs.Prelude.{Contains}
 use Rattle.kc_hang.specs.kc_table_views.Known.{IsPrefix}
 use Rattle.kc_lasting.proofs.Settled.{Learned, cut_goes_on, early, is_before, is_behind, part}
-use Rattle.kc_lasting.specs.Ends.{HasSeen, IsEndOf}
-use Rattle.kc_lasting.specs.Settled.{CountsIn, IsCutAway, IsLearned, IsSettled, IsSideOf, PutsAbove, PutsBelow, StandsBefore, Stays}
+use Rattle.kc_lasting.specs.Ends.{HasSeen, IsEraEnd}
+use Rattle.kc_lasting.specs.Settled.{CountsIn, IsCutAway, IsLearned, IsSettled, IsSideOf, PutsAbove, PutsBelow, StandsBefore, StaysAsSeen}
 use Rattle.kc_lasting.specs.declared.settling.Side.{Side}
 use Rattle.kc_lasting.specs.declared.settling.Side.TheVariants as side
-use Rattle.kc_machine_steps.specs.declared.task.Event.{Event}
 use Rattle.kc_model.proofs.Stores.{Contains-first, Contains-later}
 use Rattle.kc_model.specs.declared.footprint.Entry.{Entry}
 use Rattle.kc_model.specs.declared.footprint.Footprint.{Footprint}
@@ -29,7 +28,7 @@ module _ (z : StoreView) (c w : CallerView) (n : NoteView) (versions : List ℕ)
   len = ap length lr.note.cut.versions_are ∙ as_many lr.note.cut.cells
 
   -- a later note of the same store tells as much
-  pub end_again : (m : NoteView) → m.of ≡ z → m.note.past ≡ w.seat.past → IsEndOf z m versions
+  pub end_again : (m : NoteView) → m.of ≡ z → m.note.past ≡ w.seat.past → IsEraEnd z m versions
   end_again m of past = record {
     of = of;
     past = lr.note.past;
@@ -51,7 +50,7 @@ module _ (z : StoreView) (c w : CallerView) (n : NoteView) (versions : List ℕ)
     away : (f.puts.items ≢ [] → PutsAbove f versions) → IsCutAway (part z c w n versions lr) s.own c f
     away p j own some = let a = p some in is_behind z c w n versions lr (entry_of c.number j f) a.at 0 a.put a.puts (let b = a.within in omega (arith, b, len)) a.above
 
-    pub learned : (a : Side) (t : CallerView) → c.of ≡ z → IsSideOf a f versions → Stays c s w t → IsLearned a c s f w t
+    pub learned : (a : Side) (t : CallerView) → c.of ≡ z → IsSideOf a f versions → StaysAsSeen c s w t → IsLearned a c s f w t
     learned side.Open t of never stays = never
     learned side.Before t of p stays = (stays, (part z c w n versions lr, subst (λ (y : StoreView). StandsBefore y s.own (part z c w n versions lr)) (sym of) stood, counts p))
     learned side.Behind t of p stays = (stays, (part z c w n versions lr, subst (λ (y : StoreView). StandsBefore y s.own (part z c w n versions lr)) (sym of) stood, away p))

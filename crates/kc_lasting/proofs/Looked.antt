@@ -1,12 +1,10 @@
 -- Looks at all locations, and the cut that they show.
-use Rattle.std.proofs.Common.{◌≡◌, ◌≤◌, ◌<◌, Bool, ℕ, zero, suc, ◌+◌, List, [], ◌∷◌, take, set, get_or, length, length-set, refl, sym, ap, ◌∙◌, arith, subst}
+use Rattle.std.proofs.Common.{◌≡◌, ◌<◌, Bool, ℕ, zero, suc, ◌+◌, List, [], ◌∷◌, take, set, get_or, length, length-set, sym, ap, ◌∙◌, arith, subst}
 use Rattle.std.proofs.lemmas.List.{take_all}
 use Rattle.kc_lasting.proofs.Made.{front_entries, front_is_all}
-use Rattle.kc_lasting.specs.Cuts.{AllFrom, IsCut, IsKnownAt, IsLastAt, LooksAt, left_by, standing_at}
+use Rattle.kc_lasting.specs.Cuts.{AllFrom, IsCut, IsKnownAt, IsLastAt, LooksOnceAt, standing_at}
 use Rattle.kc_model.specs.Legal.{IsLegal}
-use Rattle.kc_model.specs.Store.{Store}
 use Rattle.kc_model.specs.declared.footprint.Seen.{Seen}
-use Rattle.kc_model.specs.declared.plain_store.Cell.{Cell}
 use Rattle.kc_hang.proofs.kc_table_views.Knowing.{whole}
 use Rattle.kc_hang.specs.kc_table_moves.Origins.{opening_of}
 use Rattle.kc_hang.specs.kc_table_moves.Views.{Joined, TableNoteView, TableView}
@@ -17,7 +15,7 @@ use Rattle.kc_hang.proofs.kc_table_laws.Keeping.{keeps_same, keeps_then}
 use Rattle.kc_store.specs.Knows.{OnlyLearns}
 use Rattle.kc_store.specs.Reads.{Stood}
 use Rattle.kc_store.specs.Views.{CallerView, StoreView, caller_view, store_view}
-use Rattle.kc_store.specs.kc_machine_traces.Histories.{IsKnown, ending_store, entries, made, seen_as_cell}
+use Rattle.kc_store.specs.kc_machine_traces.Histories.{ending_store, entries, made, seen_as_cell}
 use Rattle.kc_store.specs.kc_machine_traces.Traces.{first_store}
 use Rattle.kc_store.specs.kc_table_laws.Tasks.{KeepsKnown}
 use Rattle.kc_store.specs.kc_table_moves.Views.{SeatView, knows, opening_at_seat}
@@ -48,7 +46,7 @@ pub last_on : (v w : SeatView) (l : ℕ) (r : Seen) → KeepsKnown v w → IsLas
 last_on v w l r k last = let a = k.versions l in omega (arith, a, last)
 
 -- a read, whose caller shows what it knows
-pub looks : (l : ℕ) (r : Seen) (b e : Bool) (v w : SeatView) → Stood l (caller_view b v) r (caller_view e w) → KeepsKnown v w → LooksAt l v r w
+pub looks : (l : ℕ) (r : Seen) (b e : Bool) (v w : SeatView) → Stood l (caller_view b v) r (caller_view e w) → KeepsKnown v w → LooksOnceAt l v r w
 looks l r b e v w s k =
     let front : made (first_store (opening_at_seat w)) (entries (take s.front (knows w))) l ≡ seen_as_cell r = ap (λ es. made (first_store (opening_at_seat w)) es l) (sym (front_entries s.front (knows w))) ∙ s.makes in
     record {
@@ -90,11 +88,11 @@ still_first c = record { learns = learns_same c; keeps = keeps_same c.seat }
 pub still_on : (c d e : CallerView) → StillLooks c d → OnlyLearns d e → KeepsKnown d.seat e.seat → StillLooks c e
 still_on c d e s l k = record { learns = learns_on c d e s.learns l; keeps = keeps_then c.seat d.seat e.seat s.keeps k }
 
-pub looks_since : (l : ℕ) (r : Seen) (u v w : SeatView) → KeepsKnown u v → LooksAt l v r w → LooksAt l u r w
+pub looks_since : (l : ℕ) (r : Seen) (u v w : SeatView) → KeepsKnown u v → LooksOnceAt l v r w → LooksOnceAt l u r w
 looks_since l r u v w k s = record { keeps = keeps_then u v w k s.keeps; known = s.known; last = last_on u v l r k s.last }
 
 -- a read by a caller that shows what it knows, before and behind it
-pub looked : (l : ℕ) (c d : CallerView) (r : Seen) (b e : Bool) → c ≡ caller_view b c.seat → d ≡ caller_view e d.seat → Stood l c r d → KeepsKnown c.seat d.seat → LooksAt l c.seat r d.seat
+pub looked : (l : ℕ) (c d : CallerView) (r : Seen) (b e : Bool) → c ≡ caller_view b c.seat → d ≡ caller_view e d.seat → Stood l c r d → KeepsKnown c.seat d.seat → LooksOnceAt l c.seat r d.seat
 looked l c d r b e is is' s k = looks l r b e c.seat d.seat (subst (λ (x : CallerView). Stood l x r (caller_view e d.seat)) is (subst (λ (y : CallerView). Stood l c r y) is' s)) k
 
 -- ---- loops over all locations
@@ -115,14 +113,14 @@ next_one p k (suc i) (x ∷ rs) d lt all one =
     let later : suc i + 1 ≡ suc (i + 1) = omega arith in
     rw later (all.0, next_one p (suc k) i rs d (omega (arith, lt)) all.1 (subst (λ n. p n (get_or rs i d)) (omega arith) one))
 
-pub read_one : (c d e : CallerView) (at : ℕ) (r : Seen) (old cells : List Seen) → at < length cells → HaveRead c d at old cells → OnlyLearns d e → LooksAt at d.seat r e.seat → HaveRead c e (at + 1) old (set cells at r)
+pub read_one : (c d e : CallerView) (at : ℕ) (r : Seen) (old cells : List Seen) → at < length cells → HaveRead c d at old cells → OnlyLearns d e → LooksOnceAt at d.seat r e.seat → HaveRead c e (at + 1) old (set cells at r)
 read_one c d e at r old cells lt h l s = record {
   still = still_on c d e h.still l s.keeps;
   size = length-set cells at r ∙ h.size;
   known = all_more (IsKnownAt e.seat) 0 at r cells lt (all_then (IsKnownAt d.seat) (IsKnownAt e.seat) (known_on d.seat e.seat s.keeps) 0 (take at cells) h.known) (subst (λ (n : ℕ). IsKnownAt e.seat n r) (omega arith) s.known);
 }
 
-pub stands_one : (c d e : CallerView) (at : ℕ) (r : Seen) (cells : List Seen) (x : Seen) → at < length cells → StandSoFar c d at cells → OnlyLearns d e → LooksAt at d.seat r e.seat → r.version ≡ (get_or cells at x).version → StandSoFar c e (at + 1) cells
+pub stands_one : (c d e : CallerView) (at : ℕ) (r : Seen) (cells : List Seen) (x : Seen) → at < length cells → StandSoFar c d at cells → OnlyLearns d e → LooksOnceAt at d.seat r e.seat → r.version ≡ (get_or cells at x).version → StandSoFar c e (at + 1) cells
 stands_one c d e at r cells x lt h l s same = record {
   still = still_on c d e h.still l s.keeps;
   last = next_one (IsLastAt c.seat) 0 at cells x lt h.last (subst (λ (n : ℕ). IsLastAt c.seat n (get_or cells at x)) (omega arith) (last_on c.seat d.seat at (get_or cells at x) h.still.keeps (let a = s.last in omega (arith, a, same))));

@@ -8,14 +8,13 @@ use Rattle.kc_hang.proofs.kc_machine_traces.Joins.{every, made_parts}
 use Rattle.kc_hang.specs.kc_machine.Machine.{Opening, run}
 use Rattle.kc_hang.specs.kc_machine.Schedules.{IsSchedule}
 use Rattle.kc_hang.specs.kc_machine_history.Decisions.{Decision}
-use Rattle.kc_hang.specs.kc_machine_traces.Histories.{Placed, entries, footprint_of, inserted, put_of_line}
+use Rattle.kc_hang.specs.kc_machine_traces.Histories.{Placed, footprint_of, inserted, put_of_line}
 use Rattle.kc_hang.specs.kc_machine_traces.Swaps.{SwapOf}
 use Rattle.kc_hang.specs.kc_machine_traces.Traces.{swap_line, trace}
 use Rattle.kc_hang.specs.kc_table_views.Known.{known}
 use Rattle.kc_machine_steps.specs.declared.task.Event.{Event}
 use Rattle.kc_model.proofs.Stores.{Contains-first, Contains-later}
 use Rattle.kc_model.specs.Footprint.{IsRead, PutsWhatItReads}
-use Rattle.kc_model.specs.declared.footprint.Entry.{Entry}
 use Rattle.kc_model.specs.declared.footprint.Line.{Line}
 use Rattle.kc_model.specs.declared.footprint.Put.{Put}
 use Rattle.kc_model.specs.declared.footprint.Seen.{Seen}

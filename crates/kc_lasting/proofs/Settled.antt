@@ -1,5 +1,5 @@
 -- On which side of a cut the last entry of a caller stands that has learned the cut; and that all before stands there.
-use Rattle.std.proofs.Common.{◌≡◌, ◌<◌, ◌≤◌, ◌==◌, ◌⊎◌, inl, inr, Bool, true, false, cond, ℕ, zero, suc, ◌++◌, List, [], ◌∷◌, map, get_or, length, refl, sym, ap, ◌∙◌, arith, subst, Some}
+use Rattle.std.proofs.Common.{◌≡◌, ◌<◌, ◌≤◌, ◌==◌, ◌⊎◌, inl, inr, Bool, true, false, cond, ℕ, zero, suc, ◌++◌, List, [], ◌∷◌, map, get_or, length, refl, sym, ap, ◌∙◌, arith, subst}
 use Rattle.std.proofs.lemmas.List.{append_assoc}
 use Rattle.std.specs.Prelude.{Contains}
 use Rattle.kc_hang.proofs.kc_table_views.Knowing.{grows_on, legal_known}
@@ -13,25 +13,22 @@ use Rattle.kc_lasting.proofs.Early.{stands_early}
 use Rattle.kc_lasting.proofs.Putting.{all_put}
 use Rattle.kc_lasting.proofs.Sides.{all_at, is_in_part, stands_before, within_contains}
 use Rattle.kc_lasting.specs.Cuts.{left_by, standing_at}
-use Rattle.kc_lasting.specs.Ends.{HasSeen, IsCutAt, IsEndOf}
-use Rattle.kc_lasting.specs.Sides.{IsCutOff, PutWhatTheyRead, PutsAt}
+use Rattle.kc_lasting.specs.Ends.{HasSeen, IsCutAt, IsEraEnd}
+use Rattle.kc_lasting.specs.Sides.{IsCutOff, PutWhatTheyRead, PutsThere}
 use Rattle.kc_machine_steps.specs.declared.task.Event.{Event}
 use Rattle.kc_model.proofs.Stores.{Contains-first, Contains-later}
-use Rattle.kc_model.specs.Footprint.{PutsWhatItReads, put_at}
+use Rattle.kc_model.specs.Footprint.{PutsWhatItReads}
 use Rattle.kc_model.specs.declared.footprint.Entry.{Entry}
-use Rattle.kc_model.specs.declared.footprint.Footprint.{Footprint}
 use Rattle.kc_model.specs.declared.footprint.Put.{Put}
 use Rattle.kc_model.specs.declared.footprint.Seen.{Seen}
 use Rattle.kc_model.specs.declared.plain_store.Cell.{Cell}
 use Rattle.kc_store.proofs.Among.{first_or_later, nothing_in}
 use Rattle.kc_store.proofs.Remembering.{entries_by, entries_within, within_on}
-use Rattle.kc_store.specs.Answers.{own_entries}
-use Rattle.kc_store.specs.Knows.{IsWithin, OnlyLearns, entries_of, entry_of, none, here, later}
+use Rattle.kc_store.specs.Knows.{IsWithin, OnlyLearns, entries_of, none, here, later}
 use Rattle.kc_store.specs.Views.{CallerView, NoteView, StoreView, caller_view, store_opening, store_view}
 use Rattle.kc_store.specs.kc_machine_traces.Histories.{Grows, History, Placed, ending_store, entries, made, seen_as_cell}
 use Rattle.kc_store.specs.kc_machine_traces.Traces.{first_store}
-use Rattle.kc_store.specs.kc_table_laws.Tasks.{KeepsKnown}
-use Rattle.kc_store.specs.kc_table_moves.Views.{SeatView, knows, opening_at_seat}
+use Rattle.kc_store.specs.kc_table_moves.Views.{knows, opening_at_seat}
 
 -- ---- lists
 
@@ -86,7 +83,7 @@ pub record Learned (z : StoreView) (c w : CallerView) (n : NoteView) (versions :
   pub before : c ≡ caller_view c.worn c.seat
   pub behind : w ≡ caller_view w.worn w.seat
   pub own : c.own ≡ entries_of c.number c.known
-  pub note : IsEndOf z n versions
+  pub note : IsEraEnd z n versions
   pub joined : Joined c.seat n.note w.seat
   pub learns : OnlyLearns c w
 
@@ -170,12 +167,12 @@ module _ (z : StoreView) (c w : CallerView) (n : NoteView) (versions : List ℕ)
   abbrev nowhere : Seen
   nowhere = record { loc = record { 0 = 0 }; version = 0; value = 0 }
 
-  pub is_before : (x : Entry) (l k : ℕ) (q : Put) → Contains c.own x → PutsAt x l q → l < length lr.note.cut.cells → q.version < get_or versions l k → Contains part x
+  pub is_before : (x : Entry) (l k : ℕ) (q : Put) → Contains c.own x → PutsThere x l q → l < length lr.note.cut.cells → q.version < get_or versions l k → Contains part x
   is_before x l k q i at lt low =
       let v = version_at l k nowhere lt in
       is_in_part z part w.known lr.note.cut.cells (made (store_opening z) w.known) cut_off x l q nowhere lt at (among x i) (omega (arith, low, v))
 
-  pub is_behind : (x : Entry) (l k : ℕ) (q : Put) → PutsAt x l q → l < length lr.note.cut.cells → get_or versions l k ≤ q.version → ¬ Contains part x
+  pub is_behind : (x : Entry) (l k : ℕ) (q : Put) → PutsThere x l q → l < length lr.note.cut.cells → get_or versions l k ≤ q.version → ¬ Contains part x
   is_behind x l k q at lt high inside =
       let v = version_at l k nowhere lt in
       let low = stands_before z part w.known lr.note.cut.cells (made (store_opening z) w.known) cut_off x l q nowhere lt at inside in

@@ -3,8 +3,8 @@ use Rattle.std.proofs.Common.{◌≡◌, ◌≤◌, ◌<◌, ◌==◌, ℕ, zero
 use Rattle.std.proofs.lemmas.Bool.{cases_lt}
 use Rattle.std.specs.Prelude.{Contains}
 use Rattle.kc_lasting.proofs.Made.{never_lower}
-use Rattle.kc_lasting.specs.Cuts.{AllFrom, IsCut, left_by}
-use Rattle.kc_lasting.specs.Sides.{PutWhatTheyRead, IsCutOff, PutsAt}
+use Rattle.kc_lasting.specs.Cuts.{AllFrom, left_by}
+use Rattle.kc_lasting.specs.Sides.{PutWhatTheyRead, IsCutOff, PutsThere}
 use Rattle.kc_model.proofs.Stores.{Contains-first, Contains-later}
 use Rattle.kc_model.specs.Footprint.{PutsWhatItReads, put_at}
 use Rattle.kc_model.specs.Legal.{IsLegal}
@@ -15,7 +15,7 @@ use Rattle.kc_model.specs.declared.footprint.Put.{Put}
 use Rattle.kc_model.specs.declared.footprint.Seen.{Seen}
 use Rattle.kc_model.specs.declared.plain_store.Cell.{Cell}
 use Rattle.kc_store.proofs.Among.{first_or_later, nothing_in}
-use Rattle.kc_store.specs.Knows.{IsWithin, none, here, later}
+use Rattle.kc_store.specs.Knows.{IsWithin, here, later}
 use Rattle.kc_store.specs.Views.{StoreView, store_opening}
 use Rattle.kc_store.specs.kc_machine_traces.Histories.{made, seen_as_cell}
 
@@ -65,13 +65,13 @@ no_lower_after x s l = never_lower (x ∷ []) s l
 -- ---- entries of a legal list
 
 -- its put ends a version that the last store is past
-pub is_past : (es : List Entry) (s e : Store) (x : Entry) (l : ℕ) (q : Put) → IsLegal s es e → PutWhatTheyRead es → Contains es x → PutsAt x l q → q.version < (made s es l).version
+pub is_past : (es : List Entry) (s e : Store) (x : Entry) (l : ℕ) (q : Put) → IsLegal s es e → PutWhatTheyRead es → Contains es x → PutsThere x l q → q.version < (made s es l).version
 is_past [] s e x l q legal wm c at = nothing_in x c
 is_past (y ∷ es) s e x l q legal wm c at = go (first_or_later y es x c) (λ c. is_past es (after y.footprint s) e x l q legal.1 (rest_made y es wm) c at)
   where
     go : (y ≡ x) ⊎ Contains es x → (Contains es x → q.version < (made (after y.footprint s) es l).version) → q.version < (made s (y ∷ es) l).version
     go (inl is) ih =
-        let at' : PutsAt y l q = subst (λ (z : Entry). PutsAt z l q) (sym is) at in
+        let at' : PutsThere y l q = subst (λ (z : Entry). PutsThere z l q) (sym is) at in
         let ends = ends_version y.footprint s l q (first_made y es wm) legal.0 at' in
         let one = raises y.footprint s l q at' in
         let more = never_lower es (after y.footprint s) l in
@@ -79,13 +79,13 @@ is_past (y ∷ es) s e x l q legal wm c at = go (first_or_later y es x c) (λ c.
     go (inr c) ih = ih c
 
 -- and no lower one than stood at first
-pub is_above : (es : List Entry) (s e : Store) (x : Entry) (l : ℕ) (q : Put) → IsLegal s es e → PutWhatTheyRead es → Contains es x → PutsAt x l q → (s l).version ≤ q.version
+pub is_above : (es : List Entry) (s e : Store) (x : Entry) (l : ℕ) (q : Put) → IsLegal s es e → PutWhatTheyRead es → Contains es x → PutsThere x l q → (s l).version ≤ q.version
 is_above [] s e x l q legal wm c at = nothing_in x c
 is_above (y ∷ es) s e x l q legal wm c at = go (first_or_later y es x c) (λ c. is_above es (after y.footprint s) e x l q legal.1 (rest_made y es wm) c at)
   where
     go : (y ≡ x) ⊎ Contains es x → (Contains es x → (after y.footprint s l).version ≤ q.version) → (s l).version ≤ q.version
     go (inl is) ih =
-        let at' : PutsAt y l q = subst (λ (z : Entry). PutsAt z l q) (sym is) at in
+        let at' : PutsThere y l q = subst (λ (z : Entry). PutsThere z l q) (sym is) at in
         let ends = ends_version y.footprint s l q (first_made y es wm) legal.0 at' in
         omega (arith, ends)
     go (inr c) ih =
@@ -94,14 +94,14 @@ is_above (y ∷ es) s e x l q legal wm c at = go (first_or_later y es x c) (λ c
         omega (arith, up, rest)
 
 -- two entries that put a location from one version are one
-pub one_put : (es : List Entry) (s e : Store) (x y : Entry) (l : ℕ) (p q : Put) → IsLegal s es e → PutWhatTheyRead es → Contains es x → Contains es y → PutsAt x l p → PutsAt y l q → p.version ≡ q.version → x ≡ y
+pub one_put : (es : List Entry) (s e : Store) (x y : Entry) (l : ℕ) (p q : Put) → IsLegal s es e → PutWhatTheyRead es → Contains es x → Contains es y → PutsThere x l p → PutsThere y l q → p.version ≡ q.version → x ≡ y
 one_put [] s e x y l p q legal wm cx cy px py same = nothing_in x cx
 one_put (z ∷ es) s e x y l p q legal wm cx cy px py same = go (first_or_later z es x cx) (first_or_later z es y cy) (λ a b. one_put es (after z.footprint s) e x y l p q legal.1 (rest_made z es wm) a b px py same)
   where
     -- one is the first, and the other stands behind
-    apart : {A : Type 0} (x y : Entry) (p q : Put) → z ≡ x → Contains es y → PutsAt x l p → PutsAt y l q → p.version ≡ q.version → A
+    apart : {A : Type 0} (x y : Entry) (p q : Put) → z ≡ x → Contains es y → PutsThere x l p → PutsThere y l q → p.version ≡ q.version → A
     apart x y p q is cy px py same =
-        let at : PutsAt z l p = subst (λ (w : Entry). PutsAt w l p) (sym is) px in
+        let at : PutsThere z l p = subst (λ (w : Entry). PutsThere w l p) (sym is) px in
         let ends = ends_version z.footprint s l p (first_made z es wm) legal.0 at in
         let one = raises z.footprint s l p at in
         let above = is_above es (after z.footprint s) e y l q legal.1 (rest_made z es wm) cy py in
@@ -118,7 +118,7 @@ pub record PutFrom (es : List Entry) (l v : ℕ) : Type 0 where
   pub entry : Entry
   pub among : Contains es entry
   pub put : Put
-  pub at : PutsAt entry l put
+  pub at : PutsThere entry l put
   pub version : put.version ≡ v
 
 put_later : (z : Entry) (es : List Entry) (l v : ℕ) → PutFrom es l v → PutFrom (z ∷ es) l v
@@ -158,7 +158,7 @@ all_at p k i [] d lt all = absurd (omega (arith, lt))
 all_at p k zero (r ∷ rs) d lt all = subst (λ (n : ℕ). p n r) (omega arith) all.0
 all_at p k (suc i) (r ∷ rs) d lt all = subst (λ (n : ℕ). p n (get_or rs i d)) (omega arith) (all_at p (suc k) i rs d (omega (arith, lt)) all.1)
 
-module _ (z : StoreView) (part whole : List Entry) (cells : List Seen) (e : Store) (c : IsCutOff z part whole cells e) (x : Entry) (l : ℕ) (q : Put) (d : Seen) (lt : l < length cells) (at : PutsAt x l q) where
+module _ (z : StoreView) (part whole : List Entry) (cells : List Seen) (e : Store) (c : IsCutOff z part whole cells e) (x : Entry) (l : ℕ) (q : Put) (d : Seen) (lt : l < length cells) (at : PutsThere x l q) where
   version_there : (left_by z part l).version ≡ (get_or cells l d).version
   version_there = subst (λ (n : ℕ). (left_by z part n).version ≡ (get_or cells l d).version) (omega arith) (ap (λ (c : Cell). c.version) (all_at (λ (l : ℕ) (r : Seen). (r.loc.0 ≡ l) × (left_by z part l ≡ seen_as_cell r)) 0 l cells d lt c.cut.stands).1)
 

@@ -1,7 +1,7 @@
 -- What a handle is told.
-use Rattle.std.proofs.Common.{◌≡◌, Bool, true, false, ◌++◌, ℕ, List, [], ◌∷◌, length, sym, ap, ◌∙◌, arith, subst}
+use Rattle.std.proofs.Common.{◌≡◌, Bool, true, false, ◌++◌, List, [], ◌∷◌, length, sym, ap, ◌∙◌, arith, subst}
 use Rattle.std.proofs.lemmas.List.{length-append}
-use Rattle.kc_lasting.specs.Told.{Counts, CutAway, Judged, PutsNothing, ToldInVain, ToldSo, ViewedInVain, ViewedSo, is_worn_verdict}
+use Rattle.kc_lasting.specs.Told.{Counts, CutAway, Judged, AddsNoPuts, ToldInVain, ToldSo, ViewedInVain, ViewedSo, is_worn_verdict}
 use Rattle.kc_model.specs.declared.footprint.Entry.{Entry}
 use Rattle.kc_model.specs.declared.footprint.Footprint.{Footprint}
 use Rattle.kc_store.specs.Knows.{IsTold, Remembers, entry_of}
@@ -15,7 +15,7 @@ use Rattle.kc_xt.specs.Meaning.{Meaning}
 not_longer : {A : Type 0} (xs : List Entry) (x : Entry) → xs ≡ xs ++ x ∷ [] → A
 not_longer xs x e = let a = ap length e in let b = length-append xs (x ∷ []) in absurd (omega (arith, a, b))
 
-pub worn_puts_nothing : (m : Meaning) (a : Verdict) (c : CallerView) (f : Footprint) (b : CallerView) (own : List Entry) → own ≡ c.own → IsTold m a c f b → is_worn_verdict a ≡ true → PutsNothing own b f
+pub worn_puts_nothing : (m : Meaning) (a : Verdict) (c : CallerView) (f : Footprint) (b : CallerView) (own : List Entry) → own ≡ c.own → IsTold m a c f b → is_worn_verdict a ≡ true → AddsNoPuts own b f
 worn_puts_nothing m (verdict.WornLocation loc) c f b own e t w = λ n is. t.1.0
 worn_puts_nothing m verdict.WornPool c f b own e t w = λ n is. not_longer own (entry_of b.number n f) (e ∙ sym t.1 ∙ is)
 worn_puts_nothing m (verdict.Done r) c f b own e t w = absurd (cc)

@@ -17,7 +17,7 @@ pub record IsCutAt (z : StoreView) (history : List Entry) (versions : List ℕ) 
   pub versions_are : versions ≡ map (λ (r : Seen). r.version) cells
 
 -- behind a front of what the note knows the store was cut off at these versions
-pub record IsEndOf (z : StoreView) (n : NoteView) (versions : List ℕ) : Type 0 where
+pub record IsEraEnd (z : StoreView) (n : NoteView) (versions : List ℕ) : Type 0 where
   pub of : n.of ≡ z
   pub past : List Event
   pub within : IsPrefix past n.note.past

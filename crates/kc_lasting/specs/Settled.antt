@@ -1,5 +1,5 @@
 -- What a handle comes to know of its last commit, where its era may have ended.
-use Rattle.std.specs.Prelude.{◌≡◌, ◌≢◌, ◌⊎◌, ◌++◌, ◌∷◌, ℕ, ◌<◌, ◌≤◌, List, [], Contains, Some, get_or, length}
+use Rattle.std.specs.Prelude.{◌≡◌, ◌≢◌, ◌++◌, ◌∷◌, ℕ, ◌<◌, ◌≤◌, List, [], Contains, Some, get_or, length}
 use Rattle.kc_lasting.specs.Cuts.{IsCut}
 use Rattle.kc_lasting.specs.declared.settling.Side.{Side}
 use Rattle.kc_lasting.specs.declared.settling.Side.TheVariants as side
@@ -47,16 +47,16 @@ abbrev pub IsCutAway : List Entry → List Entry → CallerView → Footprint �
 IsCutAway part own b f = (n : ℕ) → b.own ≡ own ++ entry_of b.number n f ∷ [] → f.puts.items ≢ [] → ¬ Contains part (entry_of b.number n f)
 
 -- the caller has learned, and what it saw when is as it was
-pub record Stays (c s d t : CallerView) : Type 0 where
+pub record StaysAsSeen (c s d t : CallerView) : Type 0 where
   pub learns : OnlyLearns c d
   pub seen : t ≡ s
 
 -- of a caller c that had seen s, and has committed with this footprint since then
 abbrev pub IsLearned : Side → (c s : CallerView) → Footprint → (d t : CallerView) → Type 0
 IsLearned side.Open c s f d t = ⊥
-IsLearned side.Before c s f d t = Stays c s d t × ((part : List Entry) × StandsBefore c.of s.own part × CountsIn part s.own c f)
-IsLearned side.Behind c s f d t = Stays c s d t × ((part : List Entry) × StandsBefore c.of s.own part × IsCutAway part s.own c f)
-IsLearned side.Unknown c s f d t = Stays c s d t
+IsLearned side.Before c s f d t = StaysAsSeen c s d t × ((part : List Entry) × StandsBefore c.of s.own part × CountsIn part s.own c f)
+IsLearned side.Behind c s f d t = StaysAsSeen c s d t × ((part : List Entry) × StandsBefore c.of s.own part × IsCutAway part s.own c f)
+IsLearned side.Unknown c s f d t = StaysAsSeen c s d t
 
 -- likewise, where its era may go on
 abbrev pub IsSettled : Side → (c s : CallerView) → Footprint → (d t : CallerView) → Type 0

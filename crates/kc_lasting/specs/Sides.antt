@@ -1,5 +1,5 @@
 -- On which side of a cut an entry stands.
-use Rattle.std.specs.Prelude.{◌≡◌, ℕ, ◌<◌, List, Some, Contains, length, get_or}
+use Rattle.std.specs.Prelude.{◌≡◌, ℕ, List, Some, Contains}
 use Rattle.kc_model.specs.Footprint.{PutsWhatItReads, put_at}
 use Rattle.kc_model.specs.Legal.{IsLegal}
 use Rattle.kc_model.specs.Store.{Store}
@@ -22,5 +22,5 @@ pub record IsCutOff (z : StoreView) (part whole : List Entry) (cells : List Seen
   pub made : PutWhatTheyRead whole
 
 -- it puts location l, and this is the put
-abbrev pub PutsAt : Entry → ℕ → Put → Type 0
-PutsAt e l p = put_at e.footprint.puts.items l ≡ Some p
+abbrev pub PutsThere : Entry → ℕ → Put → Type 0
+PutsThere e l p = put_at e.footprint.puts.items l ≡ Some p

@@ -12,7 +12,6 @@ use Rattle.kc_store.specs.Verdicts.{verdict_as, verdict_of}
 use Rattle.kc_store.specs.Viewing.{IsViewed}
 use Rattle.kc_store.specs.Views.{CallerView}
 use Rattle.kc_store.specs.declared.verdict.Answered.{Answered}
-use Rattle.kc_store.specs.declared.verdict.Fate.{Fate}
 use Rattle.kc_store.specs.declared.verdict.Verdict.{Verdict}
 use Rattle.kc_store.specs.declared.verdict.Verdict.TheVariants as verdict
 use Rattle.kc_store.specs.declared.viewing.Viewed.{Viewed}
@@ -45,8 +44,8 @@ Crosses crossing.Before own b f d = (g : GoesOver own b d) × CountsIn g.part ow
 Crosses crossing.Behind own b f d = CutAway own b f d
 
 -- the one entry more, if there is one with this footprint, puts nothing
-abbrev pub PutsNothing : List Entry → CallerView → Footprint → Type 0
-PutsNothing own b f = (n : ℕ) → b.own ≡ own ++ entry_of b.number n f ∷ [] → f.puts.items ≡ []
+abbrev pub AddsNoPuts : List Entry → CallerView → Footprint → Type 0
+AddsNoPuts own b f = (n : ℕ) → b.own ≡ own ++ entry_of b.number n f ∷ [] → f.puts.items ≡ []
 
 -- something is worn out
 abbrev pub is_worn_verdict : Verdict → Bool
@@ -84,20 +83,20 @@ CommitsOnce m (Some a) c f d = ToldSo m (verdict_of a) c f d
 CommitsOnce m None c f d = ToldInVain m c f d
 
 -- calls in vain, one after another
-pub data InVain (m : Meaning) (c : CallerView) : CallerView → Type 0 where
-  none : InVain m c c
-  again : (x d : CallerView) (f : Footprint) → InVain m c x → ToldInVain m x f d → InVain m c d
+pub data AllInVain (m : Meaning) (c : CallerView) : CallerView → Type 0 where
+  none : AllInVain m c c
+  again : (x d : CallerView) (f : Footprint) → AllInVain m c x → ToldInVain m x f d → AllInVain m c d
 
 -- and one that stands in the history
-pub record CommitsAtLast (m : Meaning) (a : Answered) (c : CallerView) (f : Footprint) (d : CallerView) : Type 0 where
+pub record CommitsInSomeEra (m : Meaning) (a : Answered) (c : CallerView) (f : Footprint) (d : CallerView) : Type 0 where
   pub last : CallerView
-  pub before : InVain m c last
+  pub before : AllInVain m c last
   pub told : ToldSo m (verdict_of a) last f d
 
 -- a commit was told so, after some that were told Later
 pub record WaitsTill (m : Meaning) (a : Answered) (f : Footprint) (d : CallerView) : Type 0 where
   pub from : CallerView
-  pub commits : CommitsAtLast m a from f d
+  pub commits : CommitsInSomeEra m a from f d
 
 -- ---- views
 

@@ -2,7 +2,7 @@
 
 ghost use Rattle.std.specs.Prelude.{◌≡◌, ◌≤◌, ◌<◌, ◌+◌, ◌++◌, ◌∷◌, [], ℕ, length, All, IfOk};
 ghost use Rattle.kc_lasting.specs.Eras.{OpensOn};
-ghost use Rattle.kc_lasting.specs.Told.{AttemptsSo, CommitsAtLast, CommitsOnce, ViewsAtLast, ViewsOnce, WaitsTill, is_worn_verdict};
+ghost use Rattle.kc_lasting.specs.Told.{AttemptsSo, CommitsInSomeEra, CommitsOnce, ViewsAtLast, ViewsOnce, WaitsTill, is_worn_verdict};
 ghost use Rattle.kc_store.specs.Verdicts.{verdict_as, verdict_of};
 ghost use Rattle.kc_model.specs.declared.plain_store.TheConstants.{MOST_LOCATIONS};
 ghost use Rattle.kc_xt.specs.Commit.{tried_of};
@@ -131,9 +131,7 @@ fn lasting(
     requires few { length values.now ≤ MOST_LOCATIONS }
 {
     let (eras, clients) = first_of(alloc, store, dealt, values)?;
-    Ok(each_with_its_share(
-        alloc, eras, clients, callers, left, share,
-    )?)
+    Ok(each_with_its_share(alloc, eras, clients, callers, left, share)?)
 }
 
 // Each client, with its share of the eras.
@@ -225,7 +223,7 @@ impl LastingCaller {
     ) -> Answered
         requires fit { T.is_fit transaction.now }
         requires within { T.end transaction.now ≤ self.old.client.locations }
-        ensures told { CommitsAtLast (limited (T.most transaction.now) (T.meaning transaction.now)) result self.old.client.caller footprint.new self.new.client.caller }
+        ensures told { CommitsInSomeEra (limited (T.most transaction.now) (T.meaning transaction.now)) result self.old.client.caller footprint.new self.new.client.caller }
         ensures size { self.new.client.locations ≡ self.old.client.locations }
     {
         'tries: for _ in rt.forever() {

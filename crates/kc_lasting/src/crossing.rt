@@ -1,7 +1,7 @@
 //! What a handle does behind each call on its store: it looks whether its era goes on, and else goes over to the last one.
 
 ghost use Rattle.std.specs.Prelude.{◌≡◌, [], true, false};
-ghost use Rattle.kc_lasting.specs.Told.{Counts, Crosses, Judged, PutsNothing};
+ghost use Rattle.kc_lasting.specs.Told.{Counts, Crosses, Judged, AddsNoPuts};
 
 use crate::client::{Client, Fresh};
 use crate::renewing::Eras;
@@ -54,7 +54,7 @@ pub(crate) fn stands<R: Wait>(
     footprint: &Footprint,
     worn: bool,
 ) -> bool
-    requires worn { worn ≡ true → PutsNothing client.old.seen.value.own client.old.caller footprint.now }
+    requires worn { worn ≡ true → AddsNoPuts client.old.seen.value.own client.old.caller footprint.now }
     ensures judged { Judged result client.old.seen.value.own client.old.caller footprint.now client.new.caller }
     ensures all { client.new.seen.value.own ≡ client.new.caller.own }
     ensures size { client.new.locations ≡ client.old.locations }

@@ -3,7 +3,7 @@
 ghost use Rattle.std.specs.Prelude.{◌≡◌, ◌<◌, true, length};
 ghost use Rattle.kc_hang.specs.kc_table_moves.Origins.{opening_of};
 ghost use Rattle.kc_hang.specs.kc_table_views.Known.{IsPrefix, known};
-ghost use Rattle.kc_lasting.specs.Cuts.{AllFrom, IsCut, IsKnownAt, IsLastAt, LooksAt};
+ghost use Rattle.kc_lasting.specs.Cuts.{AllFrom, IsCut, IsKnownAt, IsLastAt, LooksOnceAt};
 ghost use Rattle.kc_store.specs.Knows.{OnlyLearns};
 ghost use Rattle.kc_store.specs.kc_machine_traces.Histories.{entries};
 ghost use Rattle.kc_store.specs.kc_table_laws.Tasks.{KeepsKnown};
@@ -14,7 +14,13 @@ use std::sync::Wait;
 
 /// Reads all locations, again and again, until none has changed from one reading to the next. The cells are what stands then. What
 /// the caller knows then is the note's: a history that is legal from the opening, and leaves just these cells.
-pub(crate) fn cut<R: Wait>(rt: &R, store: &Store, caller: &mut Caller, cells: &mut [Seen], locations: u32) -> Note
+pub(crate) fn cut<R: Wait>(
+    rt: &R,
+    store: &Store,
+    caller: &mut Caller,
+    cells: &mut [Seen],
+    locations: u32,
+) -> Note
     requires caller { caller.old.of ≡ store.now }
     requires size { length cells.old ≡ locations }
     requires locations { locations ≡ store.now.locations }
@@ -54,7 +60,13 @@ fn read_all<R: Wait>(rt: &R, store: &Store, caller: &mut Caller, cells: &mut [Se
 }
 
 // Whether each location stands at its version.
-fn all_stand<R: Wait>(rt: &R, store: &Store, caller: &mut Caller, cells: &[Seen], locations: u32) -> bool
+fn all_stand<R: Wait>(
+    rt: &R,
+    store: &Store,
+    caller: &mut Caller,
+    cells: &[Seen],
+    locations: u32,
+) -> bool
     requires caller { caller.old.of ≡ store.now }
     requires size { length cells.now ≡ locations }
     requires locations { locations ≡ store.now.locations }
@@ -75,7 +87,7 @@ pub(crate) fn look<R: Wait>(rt: &R, store: &Store, caller: &mut Caller, at: Loc)
     requires caller { caller.old.of ≡ store.now }
     requires within { at.0 < store.now.locations }
     ensures learns { OnlyLearns caller.old caller.new }
-    ensures looks { LooksAt at.0 caller.old.seat result caller.new.seat }
+    ensures looks { LooksOnceAt at.0 caller.old.seat result caller.new.seat }
 {
     'tries: for _ in rt.forever() {
         caller.shows();

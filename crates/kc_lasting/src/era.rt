@@ -1,7 +1,7 @@
 //! An era: a store, from one cut to the next.
 
 ghost use Rattle.std.specs.Prelude.{◌≡◌, IfSome};
-ghost use Rattle.kc_lasting.specs.Ends.{IsEndOf};
+ghost use Rattle.kc_lasting.specs.Ends.{IsEraEnd};
 
 use counted_slot::{Counted, FREE, Fits, TAKEN};
 use kc_store::{Note, Store};
@@ -16,11 +16,11 @@ pub struct End {
 }
 
 impl Fits for End {
-    ghost use Rattle.kc_lasting.specs.Ends.{IsEndOf};
+    ghost use Rattle.kc_lasting.specs.Ends.{IsEraEnd};
 
     type Tag = Store;
 
-    ghost fits = { λ z e. IsEndOf z e.note e.versions.items };
+    ghost fits = { λ z e. IsEraEnd z e.note e.versions.items };
 }
 
 /// A store, and how it ends.
@@ -42,7 +42,7 @@ impl Era {
 
     /// How it ended, if it has. Who takes it gives it back.
     pub(crate) fn take_end(&self) -> Option<End>
-        ensures { IfSome result (λ e. IsEndOf self.now.store e.note e.versions.items) }
+        ensures { IfSome result (λ e. IsEraEnd self.now.store e.note e.versions.items) }
     {
         let (found, claim) = self.end.turn(FREE, TAKEN);
         if found == FREE {
@@ -55,7 +55,7 @@ impl Era {
     }
 
     pub(crate) fn give_end(&self, end: End)
-        requires { IsEndOf self.now.store end.note end.versions.items }
+        requires { IsEraEnd self.now.store end.note end.versions.items }
     {
         let (found, claim) = self.end.turn(FREE, TAKEN);
         if found == FREE {

@@ -2,10 +2,10 @@
 
 ghost use Rattle.std.specs.Prelude.{◌≡◌, ◌<◌, ◌≤◌, ◌+◌, ℕ, List, [], length, map, All, IfOk};
 ghost use Rattle.kc_lasting.specs.Cuts.{IsCut};
-ghost use Rattle.kc_lasting.specs.Eras.{Chained, Leaves, OpensOn};
+ghost use Rattle.kc_lasting.specs.Eras.{Chained, LeavesValues, OpensOn};
 ghost use Rattle.kc_model.specs.declared.footprint.Seen.{Seen as SeenView};
 ghost use Rattle.kc_model.specs.declared.plain_store.TheConstants.{MOST_LOCATIONS};
-ghost use Rattle.kc_lasting.specs.Ends.{IsEndOf};
+ghost use Rattle.kc_lasting.specs.Ends.{IsEraEnd};
 
 use crate::client::{Client, Fresh};
 use crate::cutting::cut;
@@ -60,7 +60,7 @@ impl Eras {
         _values: &[u32],
     ) -> Result<Client, AllocError>
         requires of { note.of ≡ self.old.keeper.caller.of }
-        requires leaves { Leaves note _values.now }
+        requires leaves { LeavesValues note _values.now }
         requires opens { OpensOn _values.now keeper.caller.of }
         ensures { IfOk result (λ k. k.caller.of ≡ self.old.keeper.caller.of) }
     {
@@ -121,7 +121,7 @@ impl Client {
         ensures of { self.new.caller.of ≡ self.old.caller.of }
         ensures note { result.0.of ≡ self.old.caller.of }
         ensures cut { IsCut result.0.of result.0.known cells.new }
-        ensures end { (versions : List ℕ) → versions ≡ map (λ (r : SeenView). r.version) cells.new → IsEndOf self.old.caller.of result.1 versions }
+        ensures end { (versions : List ℕ) → versions ≡ map (λ (r : SeenView). r.version) cells.new → IsEraEnd self.old.caller.of result.1 versions }
     {
         let Client {
             era,

@@ -1,7 +1,7 @@
 //! On which side of a cut a commit stands.
 
 ghost use Rattle.std.specs.Prelude.{◌≡◌};
-ghost use Rattle.kc_lasting.specs.Ends.{IsEndOf};
+ghost use Rattle.kc_lasting.specs.Ends.{IsEraEnd};
 ghost use Rattle.kc_lasting.specs.Settled.{IsLearned, IsSettled, IsSideOf};
 
 use crate::client::Client;
@@ -39,8 +39,8 @@ impl Client {
 
     // Learns what is known at the cut, and finds the commit's side.
     fn learn_end(&mut self, end: End, footprint: &Footprint) -> (Side, End)
-        requires end { IsEndOf self.old.caller.of end.note end.versions.items }
-        ensures end { IsEndOf self.old.caller.of result.1.note result.1.versions.items }
+        requires end { IsEraEnd self.old.caller.of end.note end.versions.items }
+        ensures end { IsEraEnd self.old.caller.of result.1.note result.1.versions.items }
         ensures settled { IsLearned result.0 self.old.caller self.old.seen.value footprint.now self.new.caller self.new.seen.value }
         ensures era { self.new.era ≡ self.old.era }
         ensures size { self.new.locations ≡ self.old.locations }

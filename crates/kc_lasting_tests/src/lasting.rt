@@ -69,8 +69,15 @@ fn all<R: Threads + Wait + Abort + AllocGlobal + Sync>(
 {
     let values = [0, 0, 5, 9];
     let versions = [version; 4];
-    let Ok(mut callers) = open_at(rt.alloc(), &values, &versions, 5, generation, share / 2, share)
-    else {
+    let Ok(mut callers) = open_at(
+        rt.alloc(),
+        &values,
+        &versions,
+        5,
+        generation,
+        share / 2,
+        share,
+    ) else {
         return holds(rt, false);
     };
     let (Some(mut idle), Some(d), Some(c), Some(b), Some(a)) = (

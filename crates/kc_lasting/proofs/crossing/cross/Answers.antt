@@ -1,4 +1,4 @@
-use Rattle.std.proofs.Common.{refl, ◌∙◌}
+use Rattle.std.proofs.Common.{refl}
 use Rattle.kc_lasting.proofs.GoingOver.{crosses_before, crosses_behind, kept, stays_first}
 use Rattle.kc_store.proofs.Remembering.{learns_on}
 use Rattle.kc_lasting.proofs.crossing.cross.Goals.{in-Before+else-go_over, in-Behind+else-go_over-2, in-Unknown}
@@ -27,9 +27,12 @@ tries-preserved g c =
     let v = c.args.client.now in
     let t = c.tries.client in
     let s = c.settle.new.self in
-    let i = c.tries.invariant.2 in
-    (tt, tt, elim c.match-settle.branch [
-      in-Before+else-go_over w ↦ kept v t s w.go_over.new.client c.match-settle.client i w.in-Before.ensures.settled.0 c.settle.ensures.size (w.go_over.ensures.stays w.if-go_over.false) w.go_over.ensures.size w.client-is
-    | in-Behind+else-go_over-2 w ↦ kept v t s w.go_over-in-Behind.new.client c.match-settle.client i w.in-Behind.ensures.settled.0 c.settle.ensures.size (w.go_over-in-Behind.ensures.stays w.if-go_over-2.false) w.go_over-in-Behind.ensures.size w.client-is
-    | in-Unknown w ↦ kept v t s s c.match-settle.client i w.in-Unknown.ensures.settled c.settle.ensures.size (refl, refl) refl w.client-is
-    ])
+    let i = c.tries.invariant.2 in (
+      tt,
+      tt,
+      elim c.match-settle.branch [
+        | in-Before+else-go_over w ↦ kept v t s w.go_over.new.client c.match-settle.client i w.in-Before.ensures.settled.0 c.settle.ensures.size (w.go_over.ensures.stays w.if-go_over.false) w.go_over.ensures.size w.client-is
+        | in-Behind+else-go_over-2 w ↦ kept v t s w.go_over-in-Behind.new.client c.match-settle.client i w.in-Behind.ensures.settled.0 c.settle.ensures.size (w.go_over-in-Behind.ensures.stays w.if-go_over-2.false) w.go_over-in-Behind.ensures.size w.client-is
+        | in-Unknown w ↦ kept v t s s c.match-settle.client i w.in-Unknown.ensures.settled c.settle.ensures.size (refl, refl) refl w.client-is
+      ],
+    )

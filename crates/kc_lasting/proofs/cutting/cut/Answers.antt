@@ -2,7 +2,6 @@ use Rattle.std.proofs.Common.{◌≡◌, ◌∙◌, List, ap, length, refl, subs
 use Rattle.kc_hang.proofs.kc_table_laws.Keeping.{loads_keep}
 use Rattle.kc_lasting.proofs.Looked.{all_then, is_cut, known_on, legal_behind}
 use Rattle.kc_lasting.specs.Cuts.{AllFrom, IsKnownAt, IsLastAt}
-use Rattle.kc_model.specs.declared.footprint.Entry.{Entry}
 use Rattle.kc_store.proofs.Remembering.{learns_on, learns_same}
 use Rattle.kc_store.specs.Knows.{OnlyLearns}
 use Rattle.kc_store.specs.Views.{CallerView, StoreView, caller_view, store_view}

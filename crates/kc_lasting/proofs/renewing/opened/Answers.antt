@@ -3,7 +3,7 @@ use Rattle.std.specs.Prelude.{All}
 use Rattle.std.proofs.lemmas.List.Elements.{All-pop}
 use Rattle.kc_lasting.proofs.Dealing.{IsOf, all_new, all_opened}
 use Rattle.kc_lasting.specs.Eras.{OpensOn}
-use Rattle.kc_store.specs.Views.{CallerView, StoreView}
+use Rattle.kc_store.specs.Views.{CallerView}
 use Rattle.kc_lasting.proofs.renewing.opened.Goals as goal
 
 pub deal-requires-clause-of : goal.deal-requires-clause-of

@@ -1,4 +1,4 @@
-use Rattle.std.proofs.Common.{rules, ◌≡◌, ◌≤◌, ◌<◌, arith, get_or, length}
+use Rattle.std.proofs.Common.{rules, ◌≤◌, ◌<◌, get_or, length}
 use Rattle.kc_lasting.proofs.Firsts.{first_put}
 use Rattle.kc_model.specs.declared.footprint.Put.{Put}
 use Rattle.kc_lasting.proofs.settling.side_of.Goals as goal

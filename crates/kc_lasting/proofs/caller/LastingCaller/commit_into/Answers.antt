@@ -1,6 +1,6 @@
 use Rattle.std.proofs.Common.{rules, ◌≡◌, ◌∙◌, None, refl, subst}
 use Rattle.std.specs.Prelude.{Option}
-use Rattle.kc_lasting.specs.Told.{CommitsOnce, InVain, again, none}
+use Rattle.kc_lasting.specs.Told.{CommitsOnce, again, none}
 use Rattle.kc_store.specs.declared.verdict.Answered.{Answered}
 use Rattle.kc_xt.specs.Meaning.{limited}
 use Rattle.kc_lasting.proofs.caller.LastingCaller.commit_into.Goals as goal

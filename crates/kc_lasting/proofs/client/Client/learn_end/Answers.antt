@@ -1,4 +1,4 @@
-use Rattle.std.proofs.Common.{rules, refl, ◌≡◌, ◌<◌, ◌∙◌, ap, get_or, length, subst, sym}
+use Rattle.std.proofs.Common.{rules, refl, ◌<◌, ◌∙◌, get_or, length, subst, sym}
 use Rattle.kc_lasting.proofs.Holding.{seen_on}
 use Rattle.kc_lasting.proofs.GoingOver.{stays_first}
 use Rattle.kc_lasting.proofs.Learning.{end_again, learned}
