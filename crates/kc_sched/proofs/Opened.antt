@@ -3,13 +3,13 @@ use Rattle.std.proofs.Common.{◌≡◌, ℕ, ◌+◌, ◌*◌, ◌<◌, List, [
 use Rattle.std.specs.Prelude.{get_or}
 use Rattle.kc_hash.proofs.Opened.{hash_opens}
 use Rattle.kc_sched.specs.Jobs.{HasJobs, unknown}
-use Rattle.kc_sched.specs.Sched.{IsLaid, OpensSo}
+use Rattle.kc_sched.specs.Sched.{IsSchedLaid, OpensSo}
 use Rattle.kc_sched.specs.declared.sched.Sched.{Sched}
 use Rattle.kc_store.specs.Knows.{OpensWith}
 use Rattle.kc_store.specs.Views.{StoreView, store_opening}
 use Rattle.kc_xt.specs.Meaning.{values}
 
-pub opens : (s : Sched) (opening versions : List ℕ) (k : ℕ) (z : StoreView) → IsLaid s → OpensSo s opening → OpensWith opening versions k z → HasJobs s (values (store_opening z))
+pub opens : (s : Sched) (opening versions : List ℕ) (k : ℕ) (z : StoreView) → IsSchedLaid s → OpensSo s opening → OpensWith opening versions k z → HasJobs s (values (store_opening z))
 opens s opening versions k z laid so with_ = (
   laid,
   record { states = []; told = λ i. None },

@@ -1,24 +1,24 @@
 -- What is settled stays so.
 use Rattle.std.proofs.Common.{◌≡◌, ℕ, Some, refl}
 use Rattle.kc_jobs.specs.declared.state.TheConstants.{CANCELLED, DONE}
-use Rattle.kc_sched.specs.Jobs.{EachGoes, EndsStay, Goes, Job, job_at, comes, ends, is_cancelled, starts, stays}
+use Rattle.kc_sched.specs.Jobs.{EachGoes, EndsStay, JobGoes, Job, job_at, comes, ends, is_cancelled, starts, stays}
 use Rattle.kc_sched.specs.declared.sched.Sched.{Sched}
 
-over_cancelled : (j k : Job) → Goes j k → j.state ≡ Some CANCELLED → k.state ≡ Some CANCELLED
+over_cancelled : (j k : Job) → JobGoes j k → j.state ≡ Some CANCELLED → k.state ≡ Some CANCELLED
 over_cancelled j k (stays i) e = e
 over_cancelled j k comes e = absurd (cc)
 over_cancelled j k starts e = absurd (cc)
 over_cancelled j k is_cancelled e = refl
 over_cancelled j k (ends v) e = absurd (cc)
 
-over_done : (j k : Job) → Goes j k → j.state ≡ Some DONE → k.state ≡ Some DONE
+over_done : (j k : Job) → JobGoes j k → j.state ≡ Some DONE → k.state ≡ Some DONE
 over_done j k (stays i) e = e
 over_done j k comes e = absurd (cc)
 over_done j k starts e = absurd (cc)
 over_done j k is_cancelled e = absurd (cc)
 over_done j k (ends v) e = refl
 
-still_told : (j k : Job) (v : ℕ) → Goes j k → j.told ≡ Some v → k.told ≡ Some v
+still_told : (j k : Job) (v : ℕ) → JobGoes j k → j.told ≡ Some v → k.told ≡ Some v
 still_told j k v (stays i) e = e
 still_told j k v comes e = absurd (cc)
 still_told j k v starts e = absurd (cc)

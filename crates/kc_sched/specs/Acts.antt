@@ -28,20 +28,20 @@ use Rattle.kc_xt.specs.Meaning.{Meaning}
 
 -- ---- parts
 
-abbrev pub found : Hash → ℕ → HashOp
-found states job = record { hash = states; act = hash.Find job }
+abbrev pub finding : Hash → ℕ → HashOp
+finding states job = record { hash = states; act = hash.Find job }
 
 abbrev pub marked : Hash → ℕ → ℕ → HashOp
 marked states job state = record { hash = states; act = hash.Put job state }
 
-abbrev pub resolved : Promise → ℕ → PromiseOp
-resolved end value = record { promise = end; act = promise.Resolve value }
+abbrev pub resolving : Promise → ℕ → PromiseOp
+resolving end value = record { promise = end; act = promise.Resolve value }
 
-abbrev pub taken : Queue → QueueOp
-taken q = record { queue = q; act = queue.DeqWait }
+abbrev pub taking : Queue → QueueOp
+taking q = record { queue = q; act = queue.DeqWait }
 
-abbrev pub put_in : Queue → ℕ → QueueOp
-put_in q job = record { queue = q; act = queue.Enq job }
+abbrev pub putting_in : Queue → ℕ → QueueOp
+putting_in q job = record { queue = q; act = queue.Enq job }
 
 abbrev pub no : Say
 no = record { reply = reply.Bool false }
@@ -49,10 +49,10 @@ no = record { reply = reply.Bool false }
 -- ---- transactions
 
 abbrev pub enters : Sched → ℕ → When HashOp (Give (Unless HashOp QueueOp)) Say
-enters s job = record { ask = found s.states job; is = Empty; then = record { of = record { first = marked s.states job WAITING; replies = Full; second = put_in s.line job }; back = Full }; otherwise = no }
+enters s job = record { ask = finding s.states job; is = Empty; then = record { of = record { first = marked s.states job WAITING; replies = Full; second = putting_in s.line job }; back = Full }; otherwise = no }
 
 abbrev pub ends_running : Sched → Promise → ℕ → ℕ → When HashOp (Both HashOp PromiseOp) Say
-ends_running s end job value = record { ask = found s.states job; is = Is RUNNING; then = record { first = marked s.states job DONE; second = resolved end value }; otherwise = no }
+ends_running s end job value = record { ask = finding s.states job; is = Is RUNNING; then = record { first = marked s.states job DONE; second = resolving end value }; otherwise = no }
 
 -- ---- meanings
 
@@ -60,46 +60,46 @@ abbrev pub mark_meaning : Sched → ℕ → ℕ → Meaning
 mark_meaning s job state = hash_meaning (marked s.states job state)
 
 abbrev pub into_line_meaning : Sched → ℕ → Meaning
-into_line_meaning s job = unless_meaning Full (mark_meaning s job WAITING) (queue_meaning (put_in s.line job))
+into_line_meaning s job = unless_meaning Full (mark_meaning s job WAITING) (queue_meaning (putting_in s.line job))
 
 -- a job that isn't known waits then, in the table and in the line; where either is full, nothing is done
 abbrev pub enter_meaning : Sched → ℕ → Meaning
-enter_meaning s job = when_meaning Empty (hash_meaning (found s.states job)) (give_meaning Full (into_line_meaning s job)) (say_meaning (reply.Bool false))
+enter_meaning s job = when_meaning Empty (hash_meaning (finding s.states job)) (give_meaning Full (into_line_meaning s job)) (say_meaning (reply.Bool false))
 
 -- a job that waits is cancelled, and its end is told
-abbrev pub cancel_meaning : Sched → Promise → ℕ → Meaning
-cancel_meaning s end job = when_meaning (Is WAITING) (hash_meaning (found s.states job)) (both_meaning (mark_meaning s job CANCELLED) (promise_meaning (resolved end 0))) (say_meaning (reply.Bool false))
+abbrev pub cancelling_meaning : Sched → Promise → ℕ → Meaning
+cancelling_meaning s end job = when_meaning (Is WAITING) (hash_meaning (finding s.states job)) (both_meaning (mark_meaning s job CANCELLED) (promise_meaning (resolving end 0))) (say_meaning (reply.Bool false))
 
 abbrev pub move_meaning : Sched → ℕ → Meaning
-move_meaning s job = wait_meaning Full (queue_meaning (put_in s.ready job))
+move_meaning s job = wait_meaning Full (queue_meaning (putting_in s.ready job))
 
 -- the next job of the line may run
 abbrev pub release_meaning : Sched → Meaning
-release_meaning s = fed_meaning (queue_meaning (taken s.line)) (λ job. move_meaning s job)
+release_meaning s = fed_meaning (queue_meaning (taking s.line)) (λ job. move_meaning s job)
 
 abbrev pub begin_meaning : Sched → ℕ → Meaning
-begin_meaning s job = when_meaning (Is WAITING) (hash_meaning (found s.states job)) (both_meaning (mark_meaning s job RUNNING) (say_meaning (reply.Value job))) (say_meaning reply.Empty)
+begin_meaning s job = when_meaning (Is WAITING) (hash_meaning (finding s.states job)) (both_meaning (mark_meaning s job RUNNING) (say_meaning (reply.Value job))) (say_meaning reply.Empty)
 
 -- the next job that may run runs, if it still waits
 abbrev pub start_meaning : Sched → Meaning
-start_meaning s = fed_meaning (queue_meaning (taken s.ready)) (λ job. begin_meaning s job)
+start_meaning s = fed_meaning (queue_meaning (taking s.ready)) (λ job. begin_meaning s job)
 
 -- a job that runs is done, and its end is told
-abbrev pub end_meaning : Sched → Promise → ℕ → ℕ → Meaning
-end_meaning s end job value = when_meaning (Is RUNNING) (hash_meaning (found s.states job)) (both_meaning (mark_meaning s job DONE) (promise_meaning (resolved end value))) (say_meaning (reply.Bool false))
+abbrev pub ending_meaning : Sched → Promise → ℕ → ℕ → Meaning
+ending_meaning s end job value = when_meaning (Is RUNNING) (hash_meaning (finding s.states job)) (both_meaning (mark_meaning s job DONE) (promise_meaning (resolving end value))) (say_meaning (reply.Bool false))
 
 abbrev pub await_meaning : Promise → Meaning
 await_meaning end = promise_meaning (record { promise = end; act = promise.Await })
 
 -- this promise is the end of that job
-abbrev pub IsEndOf : Sched → ℕ → Promise → Type 0
-IsEndOf s job end = (job < JOBS) × (end.base.0 ≡ end_cell s job)
+abbrev pub IsEndOfJob : Sched → ℕ → Promise → Type 0
+IsEndOfJob s job end = (job < JOBS) × (end.base.0 ≡ end_cell s job)
 
 -- what is committed
 pub data IsAct (s : Sched) : Meaning → Type 0 where
   entering : (job : ℕ) → IsAct s (enter_meaning s job)
-  cancelling : (job : ℕ) (end : Promise) → IsEndOf s job end → IsAct s (cancel_meaning s end job)
+  cancelling : (job : ℕ) (end : Promise) → IsEndOfJob s job end → IsAct s (cancelling_meaning s end job)
   releasing : IsAct s (release_meaning s)
   starting : IsAct s (start_meaning s)
-  ending : (job value : ℕ) (end : Promise) → IsEndOf s job end → IsAct s (end_meaning s end job value)
-  awaiting : (job : ℕ) (end : Promise) → IsEndOf s job end → IsAct s (await_meaning end)
+  ending : (job value : ℕ) (end : Promise) → IsEndOfJob s job end → IsAct s (ending_meaning s end job value)
+  awaiting : (job : ℕ) (end : Promise) → IsEndOfJob s job end → IsAct s (await_meaning end)

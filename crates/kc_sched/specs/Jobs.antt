@@ -3,7 +3,7 @@ use Rattle.std.specs.Prelude.{◌≡◌, ℕ, ◌<◌, List, Option, Some, None}
 use Rattle.kc_cells.specs.OnePlace.{PlaceHolds, value_held}
 use Rattle.kc_hash.specs.Content.{HashStandsFor, hash_shown, value_at}
 use Rattle.kc_jobs.specs.declared.state.TheConstants.{CANCELLED, DONE, RUNNING, WAITING}
-use Rattle.kc_sched.specs.Sched.{IsLaid, end_cell}
+use Rattle.kc_sched.specs.Sched.{IsSchedLaid, end_cell}
 use Rattle.kc_sched.specs.declared.sched.Sched.{Sched}
 use Rattle.kc_sched.specs.declared.sched.TheConstants.{JOBS}
 
@@ -24,12 +24,12 @@ pub data IsJob : Job → Type 0 where
   done : (v : ℕ) → IsJob (job_of (Some DONE) (Some v))
 
 -- what one step makes of a job
-pub data Goes : Job → Job → Type 0 where
-  stays : (j : Job) → Goes j j
-  comes : Goes (job_of None None) (job_of (Some WAITING) None)
-  starts : Goes (job_of (Some WAITING) None) (job_of (Some RUNNING) None)
-  is_cancelled : Goes (job_of (Some WAITING) None) (job_of (Some CANCELLED) (Some 0))
-  ends : (v : ℕ) → Goes (job_of (Some RUNNING) None) (job_of (Some DONE) (Some v))
+pub data JobGoes : Job → Job → Type 0 where
+  stays : (j : Job) → JobGoes j j
+  comes : JobGoes (job_of None None) (job_of (Some WAITING) None)
+  starts : JobGoes (job_of (Some WAITING) None) (job_of (Some RUNNING) None)
+  is_cancelled : JobGoes (job_of (Some WAITING) None) (job_of (Some CANCELLED) (Some 0))
+  ends : (v : ℕ) → JobGoes (job_of (Some RUNNING) None) (job_of (Some DONE) (Some v))
 
 -- the table of states, and what each end was told
 pub record Jobs : Type 0 where
@@ -40,7 +40,7 @@ abbrev pub job_in : Jobs → ℕ → Job
 job_in x job = job_of (value_at x.states job) (x.told job)
 
 -- the cells stand for that
-pub record Shows (s : Sched) (m : ℕ → ℕ) (x : Jobs) : Type 0 where
+pub record ShowsJobs (s : Sched) (m : ℕ → ℕ) (x : Jobs) : Type 0 where
   pub states : HashStandsFor s.states m x.states
   pub told : (job : ℕ) → job < JOBS → PlaceHolds (end_cell s job) m (x.told job)
 
@@ -53,11 +53,11 @@ job_at s m job = job_of (value_at (hash_shown s.states m) job) (value_held (end_
 
 -- the cells stand for jobs
 abbrev pub HasJobs : Sched → (ℕ → ℕ) → Type 0
-HasJobs s m = IsLaid s × (x : Jobs) × Shows s m x × AreJobs x
+HasJobs s m = IsSchedLaid s × (x : Jobs) × ShowsJobs s m x × AreJobs x
 
 -- each job goes on by one step at most
 abbrev pub EachGoes : Sched → (ℕ → ℕ) → (ℕ → ℕ) → Type 0
-EachGoes s m w = (job : ℕ) → job < JOBS → Goes (job_at s m job) (job_at s w job)
+EachGoes s m w = (job : ℕ) → job < JOBS → JobGoes (job_at s m job) (job_at s w job)
 
 -- a job that was cancelled or is done stays so, and its end stays told
 pub record EndsStay (s : Sched) (m w : ℕ → ℕ) : Type 0 where

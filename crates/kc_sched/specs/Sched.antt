@@ -15,7 +15,7 @@ abbrev pub end_cell : Sched → ℕ → ℕ
 end_cell s job = s.ends.first.0 + 2 * job
 
 -- the parts lie one behind another
-pub record IsLaid (s : Sched) : Type 0 where
+pub record IsSchedLaid (s : Sched) : Type 0 where
   pub line : hash_cells_end s.states ≤ s.line.base.0
   pub ready : queue_cells_end s.line ≤ s.ready.base.0
   pub ends : queue_cells_end s.ready ≤ s.ends.first.0

@@ -6,14 +6,14 @@ use Rattle.kc_model.specs.Legal.{IsLegal}
 use Rattle.kc_model.specs.Store.{Store}
 use Rattle.kc_sched.specs.Acts.{IsAct}
 use Rattle.kc_sched.specs.Jobs.{EachGoes, EndsStay}
-use Rattle.kc_sched.specs.Sched.{IsLaid, ends_end}
+use Rattle.kc_sched.specs.Sched.{IsSchedLaid, ends_end}
 use Rattle.kc_sched.specs.declared.sched.Sched.{Sched}
 use Rattle.kc_store.specs.Knows.{Remembers}
 use Rattle.kc_store.specs.Views.{CallerView, PastView, StoreView, last, opened_caller}
 
 -- a store of so many locations has the scheduler
 abbrev pub HasSched : Sched → ℕ → Type 0
-HasSched s size = IsLaid s × (ends_end s ≤ size)
+HasSched s size = IsSchedLaid s × (ends_end s ≤ size)
 
 -- a thread's caller, which committed acts of the scheduler alone
 pub record Serves (s : Sched) (c d : CallerView) : Type 0 where

@@ -1,7 +1,7 @@
 //! Four threads share the scheduler, and what is left.
 
 ghost use Rattle.std.specs.Prelude.{◌≡◌, [], ◌∷◌, IfOk, length, replicate};
-ghost use Rattle.kc_sched.specs.Sched.{IsLaid, OpensSo};
+ghost use Rattle.kc_sched.specs.Sched.{IsSchedLaid, OpensSo};
 ghost use Rattle.kc_sched.specs.Serving.{HasSched, HaveServed, IsScheduled, Serves};
 ghost use Rattle.kc_store.specs.Knows.{OpensWith};
 ghost use Rattle.kc_store.specs.Views.{opened_caller};
@@ -46,7 +46,7 @@ pub fn run_sched<R: Threads + Wait + Sync>(
     sched: &Sched,
     layout: &Layout,
 ) -> io::Result<(Past, [Tally; 3])>
-    requires laid { IsLaid sched.now }
+    requires laid { IsSchedLaid sched.now }
     requires opens { OpensSo sched.now layout.now }
     ensures { IfOk result (λ t. IsScheduled sched.now layout.now t.0) }
 {
@@ -77,7 +77,7 @@ fn gather(alloc: Global, a: Caller, b: Caller, c: Caller, d: Caller) -> io::Resu
 
 // All callers come back, each of which served.
 fn finish_all(sched: &Sched, layout: &Layout, store: Store, callers: Vec<Caller>) -> Past
-    requires laid { IsLaid sched.now }
+    requires laid { IsSchedLaid sched.now }
     requires layout { OpensSo sched.now layout.now }
     requires opens { OpensWith layout.now (replicate (length layout.now) 0) 4 store }
     requires served { HaveServed sched.now store callers.items }

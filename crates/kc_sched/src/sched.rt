@@ -1,12 +1,11 @@
 //! A scheduler, and where its parts lie.
 
 ghost use Rattle.std.specs.Prelude.{◌≡◌, ◌<◌, ◌+◌, ◌*◌, IfOk};
-ghost use Rattle.kc_cells.specs.OnePlace.{place_opening};
-ghost use Rattle.kc_sched.specs.Sched.{IsLaid, OpensSo};
+ghost use Rattle.kc_sched.specs.Sched.{IsSchedLaid, OpensSo};
 
 use kc_cells::Promise;
 use kc_hash::Hash;
-use kc_lay::{Layout, Lies};
+use kc_lay::Layout;
 use kc_model::Loc;
 use kc_queue::Queue;
 use std::alloc::{AllocError, Global};
@@ -30,28 +29,10 @@ pub struct Ends {
     pub first: Loc,
 }
 
-impl Lies for Ends {
-    ghost use Rattle.kc_sched.specs.declared.sched.TheConstants.{JOBS};
-
-    ghost first = { λ e. e.first.0 };
-
-    ghost cells = { λ e. 2 * JOBS };
-
-    ghost opens_with = { λ e. place_opening };
-
-    fn count(&self) -> u32 {
-        2 * JOBS
-    }
-
-    fn opens(&self, _index: u32) -> u32 {
-        0
-    }
-}
-
 impl Sched {
     /// The end of a job: 0 where it was cancelled, else its result.
     pub fn end_of(&self, job: u32) -> Promise
-        requires laid { IsLaid self.now }
+        requires laid { IsSchedLaid self.now }
         requires job { job < JOBS }
         ensures { result.base.0 ≡ self.now.ends.first.0 + 2 * job }
     {
@@ -65,22 +46,19 @@ impl Sched {
 ///
 /// - AllocError: there is no memory for the layout
 pub fn lay_sched(alloc: Global) -> Result<(Sched, Layout), AllocError>
-    ensures laid { IfOk result (λ t. IsLaid t.0) }
+    ensures laid { IfOk result (λ t. IsSchedLaid t.0) }
     ensures opens { IfOk result (λ t. OpensSo t.0 t.1) }
 {
     let mut layout = Layout::new(alloc);
     let states = layout.hash(8, JOBS)?;
     let line = layout.queue(JOBS)?;
     let ready = layout.queue(JOBS)?;
-    let ends = Ends {
-        first: Loc(layout.values().len() as u32),
-    };
-    layout.add(&ends)?;
+    let ends = layout.locations(2 * JOBS, 0)?;
     let sched = Sched {
         states,
         line,
         ready,
-        ends,
+        ends: Ends { first: ends.at(0) },
     };
     Ok((sched, layout))
 }
