@@ -1,9 +1,0 @@
-use Rattle.std.proofs.Common.{◌≡◌}
-use Rattle.kc_lasting.specs.Told.{AllInVain}
-use Rattle.kc_xt.specs.Meaning.{limited}
-use Rattle.kc_lasting.proofs.caller.LastingCaller.commit_into.Given as goal
-
-abbrev pub invariant-tries : goal.invariant-tries
-invariant-tries g l =
-    (goal.iterator-tries g).can_next l.iterator' × (goal.iterator-tries g).is_finite l.iterator'
-    × ((l.self.client.locations ≡ l.fn.self.client.locations) × AllInVain (limited (g.T.Transact.most l.transaction) (g.T.Transact.meaning l.transaction)) l.fn.self.client.caller l.self.client.caller)

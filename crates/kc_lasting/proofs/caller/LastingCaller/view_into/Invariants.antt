@@ -1,5 +1,0 @@
-use Rattle.std.proofs.Common.{◌≡◌}
-use Rattle.kc_lasting.proofs.caller.LastingCaller.view_into.Given as goal
-
-abbrev pub invariant-tries : goal.invariant-tries
-invariant-tries g l = (goal.iterator-tries g).can_next l.iterator' × (goal.iterator-tries g).is_finite l.iterator' × (l.self.client.locations ≡ l.fn.self.client.locations)

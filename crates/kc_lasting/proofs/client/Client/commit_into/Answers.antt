@@ -1,5 +1,0 @@
-use Rattle.kc_lasting.proofs.Holding.{seen_on}
-use Rattle.kc_lasting.proofs.client.Client.commit_into.Goals as goal
-
-pub invariant_of-self-clause-early : goal.invariant_of-self-clause-early
-invariant_of-self-clause-early g c = seen_on _ _ _ c.args.self.now.caller c.commit_into.new.caller c.commit_into.ensures.keeps c.args.self.now.early

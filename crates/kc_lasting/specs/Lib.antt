@@ -1,6 +1,0 @@
-pub mod Cuts
-pub mod Eras
-pub mod Ends
-pub mod Sides
-pub mod Settled
-pub mod Told
