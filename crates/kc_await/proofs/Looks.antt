@@ -1,5 +1,5 @@
 -- What a commit that waits adds to its caller's own entries.
-use Rattle.std.proofs.Common.{◌≡◌, ◌<◌, false, [], ◌∷◌, ◌++◌, sym, ◌∙◌, ap, subst, append_assoc, append-nil}
+use Rattle.std.proofs.Common.{◌≡◌, ◌<◌, false, true, [], ◌∷◌, ◌++◌, sym, ◌∙◌, ap, subst, append_assoc, append-nil}
 use Rattle.std.specs.Prelude.{Contains}
 use Rattle.std.proofs.lemmas.List.Elements.{All-nil, All-push}
 use Rattle.kc_await.proofs.Keeping.{waiting_keeps}
@@ -28,7 +28,7 @@ waiting_adds m v w (again u x y f before t (waits, (puts, g)) h) =
     record {
       looks = a.looks ++ e ∷ [];
       each = All-push (IsWaitingLook v.number m) a.looks e a.each look;
-      own = hangs_none f.reads x w h ∙ g.own ∙ ap (λ l. l ++ e ∷ []) a.own ∙ append_assoc (own_entries v) a.looks (e ∷ []);
+      own = hangs_none (λ heard. heard ≡ true) f.reads x w h ∙ g.own ∙ ap (λ l. l ++ e ∷ []) a.own ∙ append_assoc (own_entries v) a.looks (e ∷ []);
     }
 
 adds_entry : (m : Meaning) (f : Footprint) (v last w : SeatView) → KeepsKnown v last → AddsLooks m v last → Gains last f w → AddsBehindLooks m f v w

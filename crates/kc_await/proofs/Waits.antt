@@ -29,19 +29,26 @@ use Rattle.kc_xt.specs.Meaning.{Meaning}
 
 -- ---- before the last try
 
-pub record StillWaits (m : Meaning) (c d : CallerView) : Type 0 where
-  pub waiting : HasWaited m c.seat d.seat
+-- so far it has been told Later, and behind each look only learnt
+pub record StillTries (m : Meaning) (c d : CallerView) : Type 0 where
   pub remembers : Remembers c d
   pub adds : AddsLooksAlone m c d
   pub worn : d.worn ≡ c.worn
 
-pub not_yet : (m : Meaning) (c : CallerView) → StillWaits m c c
-not_yet m c = record {
-  waiting = none;
+-- and it hung behind each look
+pub record StillWaits (m : Meaning) (c d : CallerView) : Type 0 where
+  pub waiting : HasWaited m c.seat d.seat
+  pub tries : StillTries m c d
+
+pub not_tried : (m : Meaning) (c : CallerView) → StillTries m c c
+not_tried m c = record {
   remembers = record { of = refl; number = refl; known = within_same c.known; worn = λ q. q; keeps = keeps_same c.seat };
   adds = record { looks = []; each = All-nil (IsLookOf c.number m); own = sym (append-nil c.own) };
   worn = refl;
 }
+
+pub not_yet : (m : Meaning) (c : CallerView) → StillWaits m c c
+not_yet m c = record { waiting = none; tries = not_tried m c }
 
 pub later_is : (a : Answered) → is_later a ≡ true → a ≡ answered.Later
 later_is answered.Later e = refl
@@ -51,7 +58,7 @@ later_is (answered.WornLocation loc) e = absurd (cc)
 later_is answered.WornPool e = absurd (cc)
 
 -- a try was answered Later, and behind it the caller hung
-module _ (m : Meaning) (c d e g : CallerView) (f : Footprint) (a : Answered) (still : StillWaits m c d) (later : is_later a ≡ true) where
+module _ (m : Meaning) (c d e g : CallerView) (f : Footprint) (a : Answered) (still : StillTries m c d) (later : is_later a ≡ true) where
   at_later : (P : Answered → Type 0) → P a → P answered.Later
   at_later P p = subst P (later_is a later) p
 
@@ -66,13 +73,19 @@ module _ (m : Meaning) (c d e g : CallerView) (f : Footprint) (a : Answered) (st
         own = learns.own ∙ t.1.1.1 ∙ ap (λ l. l ++ x ∷ []) still.adds.own ∙ append_assoc c.own still.adds.looks (x ∷ []);
       }
 
-  pub waits_on : IsTold m (verdict_of a) d f e → Remembers d e → AllTries m f d.seat e.seat → Settles m (verdict_of a) d.seat f e.seat → NotesWear d (verdict_of a) e → OnlyLearns e g → Hangs f.reads e.seat g.seat → StillWaits m c g
-  waits_on told remembers tries settles notes learns hangs = record {
-    waiting = again d.seat e.seat g.seat f still.waiting tries (at_later (λ a. Settles m (verdict_of a) d.seat f e.seat) settles) hangs;
+  pub tries_on : IsTold m (verdict_of a) d f e → Remembers d e → NotesWear d (verdict_of a) e → OnlyLearns e g → StillTries m c g
+  tries_on told remembers notes learns = record {
     remembers = remembers_on c d g still.remembers (remembers_on d e g remembers learns.remembers);
     adds = one_look told learns;
     worn = learns.worn ∙ at_later (λ a. NotesWear d (verdict_of a) e) notes ∙ still.worn;
   }
+
+pub waits_on : (m : Meaning) (c d e g : CallerView) (f : Footprint) (a : Answered) → StillWaits m c d → is_later a ≡ true → IsTold m (verdict_of a) d f e → Remembers d e → AllTries m f d.seat e.seat → Settles m (verdict_of a) d.seat f e.seat → NotesWear d (verdict_of a) e → OnlyLearns e g
+    → Hangs f.reads e.seat g.seat → StillWaits m c g
+waits_on m c d e g f a still later told remembers tries settles notes learns hangs = record {
+  waiting = again d.seat e.seat g.seat f still.waiting tries (at_later m c d e g f a still.tries later (λ a. Settles m (verdict_of a) d.seat f e.seat) settles) hangs;
+  tries = tries_on m c d e g f a still.tries later told remembers notes learns;
+}
 
 -- ---- the last try
 
@@ -90,10 +103,10 @@ rising m c e f a l view =
 
 and_one : (m : Meaning) (c d e : CallerView) (f : Footprint) → StillWaits m c d → AddsOne d f e → IsRising (map (λ (x : Entry). x.number) e.own) → AddsLooksAndOne m c f e
 and_one m c d e f still one rises = record {
-  looks = still.adds.looks;
-  each = still.adds.each;
+  looks = still.tries.adds.looks;
+  each = still.tries.adds.each;
   number = one.0;
-  own = one.1 ∙ (λ i. still.adds.own i ++ entry_of (still.remembers.number i) one.0 f ∷ []);
+  own = one.1 ∙ (λ i. still.tries.adds.own i ++ entry_of (still.tries.remembers.number i) one.0 f ∷ []);
   rising = rises;
 }
 
@@ -101,11 +114,11 @@ pub told_at_last : (m : Meaning) (c d e : CallerView) (f : Footprint) (a : Answe
 told_at_last m c d e f (answered.Done r) still t n rises = (t.0, and_one m c d e f still t.1 rises)
 told_at_last m c d e f answered.TooLarge still t n rises = (t.0, (t.1.0, and_one m c d e f still t.1.1 rises))
 told_at_last m c d e f (answered.WornLocation loc) still t n rises = (t.0, (t.1.0, and_one m c d e f still t.1.1 rises))
-told_at_last m c d e f answered.WornPool still t n rises = (t.0, record { looks = still.adds.looks; each = still.adds.each; own = t.1 ∙ still.adds.own })
+told_at_last m c d e f answered.WornPool still t n rises = (t.0, record { looks = still.tries.adds.looks; each = still.tries.adds.each; own = t.1 ∙ still.tries.adds.own })
 told_at_last m c d e f answered.Later still t n rises = absurd (cc)
 
 -- what the last try noted, the whole commit did
-pub notes_at_last : (m : Meaning) (c d e : CallerView) (a : Answered) → StillWaits m c d → NotesWear d (verdict_of a) e → NotesWear c (verdict_of a) e
+pub notes_at_last : (m : Meaning) (c d e : CallerView) (a : Answered) → StillTries m c d → NotesWear d (verdict_of a) e → NotesWear c (verdict_of a) e
 notes_at_last m c d e a still notes = notes ∙ ap (λ b. is_worn_pool (verdict_of a) || b) still.worn
 
 -- ---- by value

@@ -5,7 +5,8 @@ use Rattle.kc_model.specs.Rising.{IsRising}
 use Rattle.kc_model.specs.declared.footprint.Entry.{Entry}
 use Rattle.kc_model.specs.declared.footprint.Footprint.{Footprint}
 use Rattle.kc_model.specs.declared.reply.Answer.TheVariants as answer
-use Rattle.kc_store.specs.Knows.{entry_of}
+use Rattle.kc_store.specs.Knows.{IsTold, Remembers, entry_of}
+use Rattle.kc_store.specs.Verdicts.{verdict_of}
 use Rattle.kc_store.specs.Views.{CallerView}
 use Rattle.kc_store.specs.declared.values.Outcome.{Outcome}
 use Rattle.kc_store.specs.declared.values.Outcome.TheVariants as outcome
@@ -54,3 +55,13 @@ WaitsSo m end (outcome.Later f) c d = ⊥
 WaitsSo m end (outcome.TooLarge f) c d = IsToldAtLast m answered.TooLarge c f d × IsBelow end f
 WaitsSo m end (outcome.Worn (wear.Location loc f)) c d = IsToldAtLast m (answered.WornLocation loc) c f d × IsBelow end f
 WaitsSo m end (outcome.Worn wear.Pool) c d = (d.worn ≡ true) × AddsLooksAlone m c d
+
+-- ---- a commit that waits no longer than it may
+
+-- some looks, behind each only what was learnt, and then a commit that was answered so; where that is Later, it has a look of its own at its end
+pub record IsToldInTime (m : Meaning) (a : Answered) (c : CallerView) (f : Footprint) (d : CallerView) : Type 0 where
+  pub last : CallerView
+  pub remembers : Remembers c last
+  pub looks : AddsLooksAlone m c last
+  pub worn : last.worn ≡ c.worn
+  pub told : IsTold m (verdict_of a) last f d

@@ -83,7 +83,7 @@ pub fn commit_waiting_into<R: Wait, T: Transact>(
     unreachable!()
 }
 
-fn is_later(answered: &Answered) -> bool
+pub(crate) fn is_later(answered: &Answered) -> bool
     ensures { result ≡ is_later answered.now }
 {
     matches!(answered, Answered::Later)

@@ -6,6 +6,8 @@ mod asserts;
 #[cfg(test)]
 mod callers;
 #[cfg(test)]
+mod deadlines;
+#[cfg(test)]
 mod hanging;
 #[cfg(test)]
 mod viewing;

@@ -7,4 +7,4 @@ mod waiting;
 
 pub use hang::{Hang, step};
 pub use hang_state::HangState;
-pub use waiting::wait_for_a_change;
+pub use waiting::{wait_a_while, wait_for_a_change};

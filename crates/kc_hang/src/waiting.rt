@@ -2,7 +2,7 @@
 
 ghost use Rattle.std.specs.Prelude.{◌≡◌, ◌≢◌, ◌<◌, [], true, false, All};
 ghost use Rattle.kc_hang.specs.Hanging.{MayStart, ShowsHang, is_under_way, task_of};
-ghost use Rattle.kc_hang.specs.Hangs.{Hangs};
+ghost use Rattle.kc_hang.specs.Hangs.{Hangs, HangsAWhile};
 ghost use Rattle.kc_table.specs.kc_machine.Seats.{is_idle};
 ghost use Rattle.kc_table_laws.specs.Tasks.{DoesTask};
 
@@ -12,6 +12,7 @@ use arrayvec::ArrayVec;
 use kc_model::{MOST, Seen};
 use kc_table::{KcSeat, KcTable};
 use std::sync::Wait;
+use std::time::Duration;
 
 /// Hangs on these reads until some of them may have changed, and leaves them. The seat is idle and not blocked, before and
 /// behind it. It takes no memory.
@@ -31,6 +32,30 @@ pub fn wait_for_a_change<R: Wait>(
     let mut hang = Hang::on(reads);
     if let HangState::Hung = step_on(rt, table, seat, &mut hang) {
         table.park(rt, seat);
+        hang.leave();
+        step_on(rt, table, seat, &mut hang);
+    }
+}
+
+/// Hangs on these reads until some of them may have changed, or for so long, and leaves them. It may leave them before. The seat is
+/// idle and not blocked, before and behind it. It takes no memory.
+pub fn wait_a_while<R: Wait>(
+    rt: &R,
+    table: &KcTable,
+    seat: &mut KcSeat,
+    reads: &ArrayVec<Seen, MOST>,
+    limit: Duration,
+)
+    requires table { seat.old.of ≡ table.now }
+    requires start { MayStart HangState.Going seat.old }
+    requires reads { reads.now.items ≢ [] }
+    requires below { All (λ r. r.loc.0 < table.now.origin.locations) reads.now.items }
+    ensures hangs { HangsAWhile reads.now seat.old seat.new }
+    ensures free { (is_idle seat.new.seat.work ≡ true) × (seat.new.seat.blocked ≡ false) }
+{
+    let mut hang = Hang::on(reads);
+    if let HangState::Hung = step_on(rt, table, seat, &mut hang) {
+        table.park_for(rt, seat, limit);
         hang.leave();
         step_on(rt, table, seat, &mut hang);
     }

@@ -7,7 +7,7 @@ use Rattle.arrayvec.specs.ArrayVec.{ArrayVec}
 use Rattle.kc_hang.proofs.Steps.{runs_stepping}
 use Rattle.kc_hang.specs.Hanging.{MayStep, RunsTask, ShowsHang, is_under_way, stepping, task_in, task_of}
 use Rattle.kc_hang.specs.HangView.{HangView}
-use Rattle.kc_hang.specs.Hangs.{TaskEnded, Hangs, changed, signalled}
+use Rattle.kc_hang.specs.Hangs.{HangsUntil, TaskEnded, changed, left}
 use Rattle.kc_hang.specs.declared.hang_state.HangState.{HangState}
 use Rattle.kc_hang.specs.declared.hang_state.HangState.TheVariants.{Going, Hung, Leaving, Free}
 use Rattle.kc_hang.specs.kc_machine.Seats.{begun, is_idle, own_of}
@@ -159,27 +159,27 @@ rests_learn worn v w r l = loads_learn worn v w (idle_owns v.seat r.idle) l
 ended_keeps : (v : SeatView) (t : Task) (a : Told) (w : SeatView) → TaskEnded v t a w → KeepsKnown v w
 ended_keeps v t a w e = did_keeps v w t (inl e.does)
 
-pub hangs_keep : (reads : ArrayVec Seen) (v w : SeatView) → Hangs reads v w → KeepsKnown v w
-hangs_keep reads v w (changed i x e) = ended_keeps v (task.Hang reads) (told.Changed i) w e
-hangs_keep reads v w (signalled a b x e s l) =
+pub hangs_keep : (ends : Bool → Type 0) (reads : ArrayVec Seen) (v w : SeatView) → HangsUntil ends reads v w → KeepsKnown v w
+hangs_keep ends reads v w (changed i x e) = ended_keeps v (task.Hang reads) (told.Changed i) w e
+hangs_keep ends reads v w (left heard a b x n e s l) =
     keeps_then v a w (ended_keeps v (task.Hang reads) told.Hung a e) (keeps_then a b w (loads_keep a b s.learns) (ended_keeps b (task.Leave reads) told.Free w l))
 
 ended_none : (v : SeatView) (t : Task) (a : Told) (w : SeatView) → TaskEnded v t a w → GainsAsTold v.number t (Some a) (own_entries v) (own_entries w)
 ended_none v t a w e = subst (λ y. GainsAsTold v.number t y (own_entries v) (own_entries w)) e.told (did_gains v w t (inl e.does) e.idle)
 
-pub hangs_none : (reads : ArrayVec Seen) (v w : SeatView) → Hangs reads v w → own_entries w ≡ own_entries v
-hangs_none reads v w (changed i x e) = ended_none v (task.Hang reads) (told.Changed i) w e
-hangs_none reads v w (signalled a b x e s l) =
+pub hangs_none : (ends : Bool → Type 0) (reads : ArrayVec Seen) (v w : SeatView) → HangsUntil ends reads v w → own_entries w ≡ own_entries v
+hangs_none ends reads v w (changed i x e) = ended_none v (task.Hang reads) (told.Changed i) w e
+hangs_none ends reads v w (left heard a b x n e s l) =
     ended_none b (task.Leave reads) told.Free w l ∙ learns_none a b (idle_owns a.seat e.idle) s.learns ∙ ended_none v (task.Hang reads) told.Hung a e
 
-pub hangs_learn : (worn : Bool) (reads : ArrayVec Seen) (v w : SeatView) → Hangs reads v w → OnlyLearns (caller_view worn v) (caller_view worn w)
-hangs_learn worn reads v w h = only_learns worn v w (hangs_keep reads v w h) (hangs_none reads v w h)
+pub hangs_learn : (ends : Bool → Type 0) (worn : Bool) (reads : ArrayVec Seen) (v w : SeatView) → HangsUntil ends reads v w → OnlyLearns (caller_view worn v) (caller_view worn w)
+hangs_learn ends worn reads v w h = only_learns worn v w (hangs_keep ends reads v w h) (hangs_none ends reads v w h)
 
 -- ---- where no life is left
 
-pub hangs_worn : (reads : ArrayVec Seen) (v w : SeatView) → Hangs reads v w → StaysWorn v w
-hangs_worn reads v _ (changed i w e) = worn_task v w (task.Hang reads) e.does
-hangs_worn reads v _ (signalled a b w e s l) = λ f. worn_task b w (task.Leave reads) l.does (worn_load a b s.learns (worn_task v a (task.Hang reads) e.does f))
+pub hangs_worn : (ends : Bool → Type 0) (reads : ArrayVec Seen) (v w : SeatView) → HangsUntil ends reads v w → StaysWorn v w
+hangs_worn ends reads v _ (changed i w e) = worn_task v w (task.Hang reads) e.does
+hangs_worn ends reads v _ (left heard a b w n e s l) = λ f. worn_task b w (task.Leave reads) l.does (worn_load a b s.learns (worn_task v a (task.Hang reads) e.does f))
 
 pub step_worn : (h : HangView) (v w : SeatView) → Stepped (stepping h v) w → StaysWorn v w
 step_worn h v w s = by h.begun s

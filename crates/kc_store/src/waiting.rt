@@ -2,7 +2,7 @@
 
 ghost use Rattle.std.specs.Prelude.{◌≡◌, ◌≢◌, ◌≤◌, [], true, false, length};
 ghost use Rattle.kc_hang.specs.Hanging.{ShowsHang, is_under_way, stepping, task_of};
-ghost use Rattle.kc_hang.specs.Hangs.{Hangs};
+ghost use Rattle.kc_hang.specs.Hangs.{Hangs, HangsAWhile};
 ghost use Rattle.kc_hang.specs.kc_machine.Seats.{steps_of};
 ghost use Rattle.kc_model.specs.Footprint.{IsBelow};
 ghost use Rattle.kc_store.specs.HangingView.{hang_of};
@@ -12,12 +12,13 @@ ghost use Rattle.kc_hang.specs.kc_table_laws.Tasks.{DoesTask};
 
 use crate::store::{Caller, Store};
 use arrayvec::ArrayVec;
-use kc_hang::{Hang, HangState, step, wait_for_a_change};
+use kc_hang::{Hang, HangState, step, wait_a_while, wait_for_a_change};
 use kc_model::{Footprint, MOST, Seen};
 use kc_table::KcSeat;
 use kc_xt::Room;
 use std::marker::Model;
 use std::sync::Wait;
+use std::time::Duration;
 
 impl Store {
     /// Hangs on what the footprint read, until some of it may have changed. It takes no memory.
@@ -29,6 +30,29 @@ impl Store {
         ensures hangs { Hangs footprint.now.reads caller.old.seat caller.new.seat }
     {
         wait_for_a_change(rt, &self.table, &mut caller.seat, &footprint.reads);
+    }
+
+    /// Hangs on what the footprint read, until some of it may have changed or for so long. It may end before. It takes no memory.
+    pub fn wait_a_while<R: Wait>(
+        &self,
+        rt: &R,
+        caller: &mut Caller,
+        footprint: &Footprint,
+        limit: Duration,
+    )
+        requires caller { caller.old.of ≡ self.now }
+        requires reads { footprint.now.reads.items ≢ [] }
+        requires below { IsBelow self.now.locations footprint.now }
+        ensures learns { OnlyLearns caller.old caller.new }
+        ensures hangs { HangsAWhile footprint.now.reads caller.old.seat caller.new.seat }
+    {
+        wait_a_while(
+            rt,
+            &self.table,
+            &mut caller.seat,
+            &footprint.reads,
+            limit,
+        );
     }
 }
 
@@ -165,4 +189,15 @@ pub fn park<R: Wait>(rt: &R, store: &Store, hanging: &mut Hanging)
     ensures signalled { Signalled hanging.old.caller.seat true hanging.new.caller.seat }
 {
     store.table.park(rt, &mut hanging.seat);
+}
+
+/// Sleeps for no longer than so long while the caller isn't signalled, and then says whether it is, by one load. It may wake before.
+pub fn park_for<R: Wait>(rt: &R, store: &Store, hanging: &mut Hanging, limit: Duration) -> bool
+    requires caller { hanging.old.caller.of ≡ store.now }
+    requires hung { hanging.old.state ≡ HangState.Hung }
+    ensures hanging { hanging.new ≡ record hanging.old { caller = hanging.new.caller } }
+    ensures learns { OnlyLearns hanging.old.caller hanging.new.caller }
+    ensures signalled { Signalled hanging.old.caller.seat result hanging.new.caller.seat }
+{
+    store.table.park_for(rt, &mut hanging.seat, limit)
 }

@@ -16,6 +16,7 @@ use kc_table_moves::{Origin, Words, touch_seat};
 use std::alloc::Global;
 use std::marker::{Brand, Model};
 use std::sync::Wait;
+use std::time::Duration;
 
 /// How many seats a table may have, as many as its machine may have callers.
 pub const MOST_CALLERS: u32 = 64;
@@ -203,5 +204,18 @@ impl KcTable {
                 self.words.park(rt, signal_at(caller), 0);
             }
         }
+    }
+
+    /// Sleeps for no longer than so long while the seat isn't signalled, and then says whether it is, by one load. It may wake before.
+    pub fn park_for<R: Wait>(&self, rt: &R, seat: &mut KcSeat, limit: Duration) -> bool
+        requires { seat.old.of ≡ self.now }
+        ensures signalled { Signalled seat.old result seat.new }
+        ensures loads { seat.new.loads ≡ seat.old.loads + 1 }
+    {
+        let caller = seat.machine.caller();
+        if caller < MOST_CALLERS {
+            self.words.park_for(rt, signal_at(caller), 0, limit);
+        }
+        self.signalled(seat)
     }
 }

@@ -16,6 +16,7 @@ use atomic_table::{Closed, Table};
 use std::alloc::{AllocError, Global};
 use std::marker::Model;
 use std::sync::Wait;
+use std::time::Duration;
 
 /// A token of the table: what a seat knows, or a note.
 pub type Token = atomic_table::Seat<(), View>;
@@ -179,6 +180,13 @@ impl Words {
         requires { word < self.now.table_id.words }
     {
         self.table.shared.park(rt, word, expected);
+    }
+
+    /// Likewise, for no longer than so long.
+    pub fn park_for<R: Wait>(&self, rt: &R, word: usize, expected: u32, limit: Duration)
+        requires { word < self.now.table_id.words }
+    {
+        self.table.shared.park_timeout(rt, word, expected, limit);
     }
 }
 

@@ -1,5 +1,5 @@
-use Rattle.std.proofs.Common.{◌≡◌, false, ap, subst, ◌∙◌}
-use Rattle.kc_hang.proofs.Waits.{hangs_at_once, hangs_signalled}
+use Rattle.std.proofs.Common.{◌≡◌, false, true, refl, ap, subst, ◌∙◌}
+use Rattle.kc_hang.proofs.Waits.{hangs_at_once, hangs_left}
 use Rattle.kc_hang.specs.Hanging.{ShowsHang, task_of}
 use Rattle.kc_hang.specs.HangView.{HangView}
 use Rattle.kc_hang.specs.declared.hang_state.HangState.TheVariants.{Hung, Leaving}
@@ -15,7 +15,7 @@ returns-in-Hung-clause-hangs g c =
     let last = c.step_on-in-Hung in
     let left : c.leave.new.self ≡ record { reads = reads; state = Leaving; begun = false } =
     c.leave.ensures ∙ ap (λ (h : HangView). record h { state = Leaving; begun = false }) c.in-Hung.ensures.hang ∙ ap (λ (h : HangView). record h { state = Leaving; begun = false }) c.on-hang.ensures in
-    (hangs_signalled reads v last.new.seat a b last.result
+    (hangs_left (λ heard. heard ≡ true) reads v last.new.seat true a b last.result refl
     (subst (λ (h : HangView). DoesTask v (task_of h) a) c.on-hang.ensures c.in-Hung.ensures.does)
     (subst (λ (h : HangView). ShowsHang h.reads h.state Hung a) c.on-hang.ensures c.in-Hung.ensures.shows)
     c.park.ensures.signalled last.ensures.ended
@@ -27,7 +27,7 @@ returns-in_default g c =
     let reads = c.args.reads.now in
     let v = c.args.seat.now in
     let r = c.step_on in
-    let h = hangs_at_once reads v r.new.seat r.result c.in_default.not-Hung r.ensures.ended
+    let h = hangs_at_once (λ heard. heard ≡ true) reads v r.new.seat r.result c.in_default.not-Hung r.ensures.ended
     (subst (λ (h : HangView). DoesTask v (task_of h) r.new.seat) c.on-hang.ensures r.ensures.does)
     (subst (λ (h : HangView). ShowsHang h.reads h.state r.result r.new.seat) c.on-hang.ensures r.ensures.shows) in
     record { hangs = h.0; free = h.1 }

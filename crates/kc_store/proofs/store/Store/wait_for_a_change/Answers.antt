@@ -1,4 +1,4 @@
-use Rattle.std.proofs.Common.{subst, sym}
+use Rattle.std.proofs.Common.{◌≡◌, true, subst, sym}
 use Rattle.kc_hang.specs.Hangs.{Hangs}
 use Rattle.kc_model.specs.Footprint.{IsBelow}
 use Rattle.kc_store.proofs.Boxed.{caller_of, rests_so, worn_so}
@@ -17,7 +17,7 @@ wait_for_a_change-requires g c = record {
 }
 
 pub invariant_of-caller : goal.invariant_of-caller
-invariant_of-caller g c = (record { idle = c.wait_for_a_change.ensures.free.0; free = c.wait_for_a_change.ensures.free.1 }, λ q. hangs_worn c.args.footprint.now.reads c.deref_mut.result.now c.wait_for_a_change.new.seat c.wait_for_a_change.ensures.hangs (worn_so c.caller.inside.worn c.deref_mut.result.now c.caller.inside.seat.value c.deref_mut.ensures.value c.caller.invariant.1 q))
+invariant_of-caller g c = (record { idle = c.wait_for_a_change.ensures.free.0; free = c.wait_for_a_change.ensures.free.1 }, λ q. hangs_worn (λ heard. heard ≡ true) c.args.footprint.now.reads c.deref_mut.result.now c.wait_for_a_change.new.seat c.wait_for_a_change.ensures.hangs (worn_so c.caller.inside.worn c.deref_mut.result.now c.caller.inside.seat.value c.deref_mut.ensures.value c.caller.invariant.1 q))
 
 pub returns : goal.returns
 returns g c =
@@ -25,6 +25,6 @@ returns g c =
     let w = c.wait_for_a_change.new.seat in
     let h = c.wait_for_a_change.ensures.hangs in
     record {
-      learns = subst (λ x. OnlyLearns x (caller_view c.caller.inside.worn w)) (caller_of c.caller.inside.worn c.deref_mut.result.now c.caller.inside.seat.value c.args.caller.now c.deref_mut.ensures.value c.caller.view_is) (hangs_learn c.caller.inside.worn c.args.footprint.now.reads v w h);
+      learns = subst (λ x. OnlyLearns x (caller_view c.caller.inside.worn w)) (caller_of c.caller.inside.worn c.deref_mut.result.now c.caller.inside.seat.value c.args.caller.now c.deref_mut.ensures.value c.caller.view_is) (hangs_learn (λ heard. heard ≡ true) c.caller.inside.worn c.args.footprint.now.reads v w h);
       hangs = subst (λ (x : CallerView). Hangs c.args.footprint.now.reads x.seat w) (caller_of c.caller.inside.worn c.deref_mut.result.now c.caller.inside.seat.value c.args.caller.now c.deref_mut.ensures.value c.caller.view_is) h;
     }

@@ -1,0 +1,33 @@
+use Rattle.kc_xt.specs.Meaning.{limited}
+use Rattle.std.proofs.Common.{◌∙◌, sym, ap, subst}
+use Rattle.kc_await.proofs.SomeRead.{waits_reads}
+use Rattle.kc_await.proofs.Waits.{below_all, later_is, not_tried, notes_at_last, tries_on}
+use Rattle.kc_store.proofs.Remembering.{remembers_on}
+use Rattle.kc_store.specs.Answers.{Settles}
+use Rattle.kc_store.specs.Verdicts.{has_entry, verdict_of}
+use Rattle.kc_await.proofs.in_time.commit_waiting_until.Goals as goal
+
+pub tries-init : goal.tries-init
+tries-init g c = (tt, tt, not_tried _ c.args.caller.now)
+
+pub commit_into-answered-requires-clause-caller : goal.commit_into-answered-requires-clause-caller
+commit_into-answered-requires-clause-caller g c = c.tries.invariant.2.remembers.of ∙ c.requires.caller
+
+pub wait_a_while-requires : goal.wait_a_while-requires
+wait_a_while-requires g c =
+    let r = c.commit_into-answered in
+    let m = (limited (g.T.Transact.most c.args.transaction.now) (g.T.Transact.meaning c.args.transaction.now)) in
+    let later = later_is r.result (sym c.if-not-is_later.ensures) in
+    record {
+      caller = r.ensures.remembers.of ∙ c.tries.invariant.2.remembers.of ∙ c.requires.caller;
+      reads = waits_reads m r.new.footprint (subst (λ a. Settles m (verdict_of a) c.tries.caller.seat r.new.footprint r.new.caller.seat) later r.ensures.settles).0;
+      below = below_all _ _ r.new.footprint c.requires.within (r.ensures.within (ap (λ a. has_entry (verdict_of a)) later));
+    }
+
+pub tries-preserved : goal.tries-preserved
+tries-preserved g c =
+    let r = c.commit_into-answered in (
+      tt,
+      tt,
+      tries_on _ c.args.caller.now c.tries.caller r.new.caller c.wait_a_while.new.caller r.new.footprint r.result c.tries.invariant.2 (sym c.if-not-is_later.ensures) r.ensures.told r.ensures.remembers r.ensures.notes c.wait_a_while.ensures.learns,
+    )
