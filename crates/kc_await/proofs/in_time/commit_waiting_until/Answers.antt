@@ -1,7 +1,7 @@
 use Rattle.kc_xt.specs.Meaning.{limited}
 use Rattle.std.proofs.Common.{◌∙◌, sym, ap, subst}
 use Rattle.kc_await.proofs.SomeRead.{waits_reads}
-use Rattle.kc_await.proofs.Waits.{below_all, later_is, not_tried, notes_at_last, tries_on}
+use Rattle.kc_await.proofs.Waits.{below_all, later_is, not_tried, tries_on}
 use Rattle.kc_store.proofs.Remembering.{remembers_on}
 use Rattle.kc_store.specs.Answers.{Settles}
 use Rattle.kc_store.specs.Verdicts.{has_entry, verdict_of}
@@ -31,3 +31,9 @@ tries-preserved g c =
       tt,
       tries_on _ c.args.caller.now c.tries.caller r.new.caller c.wait_a_while.new.caller r.new.footprint r.result c.tries.invariant.2 (sym c.if-not-is_later.ensures) r.ensures.told r.ensures.remembers r.ensures.notes c.wait_a_while.ensures.learns,
     )
+
+pub returns-then-not-is_later-clause-remembers : goal.returns-then-not-is_later-clause-remembers
+returns-then-not-is_later-clause-remembers g c = remembers_on c.args.caller.now c.tries.caller c.commit_into-answered.new.caller c.tries.invariant.2.remembers c.commit_into-answered.ensures.remembers
+
+pub returns-in_default-clause-remembers : goal.returns-in_default-clause-remembers
+returns-in_default-clause-remembers g c = remembers_on c.args.caller.now c.tries.caller c.commit_into-answered.new.caller c.tries.invariant.2.remembers c.commit_into-answered.ensures.remembers
