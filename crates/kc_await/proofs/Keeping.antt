@@ -1,6 +1,6 @@
 -- What a commit that waits keeps: all that its caller knew.
-use Rattle.std.proofs.Common.{◌≡◌, true, sym, subst}
-use Rattle.kc_await.specs.Waiting.{CommitsAtLast, HasWaited, none, again}
+use Rattle.std.proofs.Common.{◌≡◌, Bool, true, sym, subst}
+use Rattle.kc_await.specs.Waiting.{CommitsAtLast, HasWaitedUntil, none, again}
 use Rattle.kc_model.specs.declared.footprint.Footprint.{Footprint}
 use Rattle.kc_store.proofs.kc_table_laws.Keeping.{keeps_same, keeps_then}
 use Rattle.kc_store.proofs.Waits.{hangs_keep}
@@ -35,9 +35,9 @@ commit_keeps m f v w t = keeps_then v t.last w (vain_keep m v t.last t.before) (
 
 -- ---- commits that wait
 
-pub waiting_keeps : (m : Meaning) (v w : SeatView) → HasWaited m v w → KeepsKnown v w
-waiting_keeps m v w none = keeps_same v
-waiting_keeps m v w (again u x y f before t s h) = keeps_then v u w (waiting_keeps m v u before) (keeps_then u x w (commit_keeps m f u x t) (hangs_keep (λ heard. heard ≡ true) f.reads x w h))
+pub waiting_keeps : (ends : Bool → Type 0) (m : Meaning) (v w : SeatView) → HasWaitedUntil ends m v w → KeepsKnown v w
+waiting_keeps ends m v w none = keeps_same v
+waiting_keeps ends m v w (again u x y f before t s h) = keeps_then v u w (waiting_keeps ends m v u before) (keeps_then u x w (commit_keeps m f u x t) (hangs_keep ends f.reads x w h))
 
 pub at_last_keeps : (m : Meaning) (a : Answered) (f : Footprint) (v w : SeatView) → CommitsAtLast m a f v w → KeepsKnown v w
-at_last_keeps m a f v w c = keeps_then v c.last w (waiting_keeps m v c.last c.waiting) (commit_keeps m f c.last w c.tries)
+at_last_keeps m a f v w c = keeps_then v c.last w (waiting_keeps (λ heard. heard ≡ true) m v c.last c.waiting) (commit_keeps m f c.last w c.tries)

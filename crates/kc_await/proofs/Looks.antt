@@ -24,7 +24,7 @@ waiting_adds m v w none = record { looks = []; each = All-nil (IsWaitingLook v.n
 waiting_adds m v w (again u x y f before t (waits, (puts, g)) h) =
     let a = waiting_adds m v u before in
     let e : Placed = placed_entry g.taught.place g.mode u.number g.number f in
-    let look : IsWaitingLook v.number m e = record { own = (waiting_keeps m v u before).number; puts_nothing = puts; waits = waits } in
+    let look : IsWaitingLook v.number m e = record { own = (waiting_keeps (λ heard. heard ≡ true) m v u before).number; puts_nothing = puts; waits = waits } in
     record {
       looks = a.looks ++ e ∷ [];
       each = All-push (IsWaitingLook v.number m) a.looks e a.each look;
@@ -52,7 +52,7 @@ adds_at_last v w m a f c = go a c.settles c.answers
     before = waiting_adds m v c.last c.waiting
 
     keeps : KeepsKnown v c.last
-    keeps = waiting_keeps m v c.last c.waiting
+    keeps = waiting_keeps (λ heard. heard ≡ true) m v c.last c.waiting
 
     go : (a : Answered) → Settles m (verdict_of a) c.last f w → is_later a ≡ false → AddsUnlessWorn m a f v w
     go (answered.Done r) s e = adds_entry m f v c.last w keeps before s.1

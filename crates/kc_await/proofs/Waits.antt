@@ -1,12 +1,12 @@
 -- A commit that waits, from try to try.
-use Rattle.std.proofs.Common.{◌≡◌, ◌++◌, ◌||◌, true, false, ℕ, List, [], ◌∷◌, refl, sym, ap, ◌∙◌, subst, append_assoc, append-nil, ◌≤◌, arith}
+use Rattle.std.proofs.Common.{◌≡◌, ◌++◌, ◌||◌, Bool, true, false, ℕ, List, [], ◌∷◌, refl, sym, ap, ◌∙◌, subst, append_assoc, append-nil, ◌≤◌, arith}
 use Rattle.std.specs.Prelude.{map}
 use Rattle.std.proofs.lemmas.List.Elements.{All-nil, All-push}
 use Rattle.kc_await.proofs.Numbered.{rises_at_last}
 use Rattle.kc_await.specs.Adds.{AddsLooksAlone, AddsLooksAndOne, IsLookOf, IsToldAtLast, WaitsSo}
 use Rattle.kc_await.specs.Looks.{entry_numbers}
-use Rattle.kc_await.specs.Waiting.{CommitsAtLast, HasWaited, none, again, is_later}
-use Rattle.kc_store.specs.kc_hang.Hangs.{Hangs}
+use Rattle.kc_await.specs.Waiting.{CommitsAtLast, HasWaitedUntil, none, again, is_later}
+use Rattle.kc_store.specs.kc_hang.Hangs.{HangsUntil}
 use Rattle.kc_store.specs.kc_machine_traces.Histories.{History, entries}
 use Rattle.kc_model.specs.Footprint.{IsBelow}
 use Rattle.kc_model.specs.Rising.{IsRising}
@@ -36,8 +36,8 @@ pub record StillTries (m : Meaning) (c d : CallerView) : Type 0 where
   pub worn : d.worn ≡ c.worn
 
 -- and it hung behind each look
-pub record StillWaits (m : Meaning) (c d : CallerView) : Type 0 where
-  pub waiting : HasWaited m c.seat d.seat
+pub record StillWaits (ends : Bool → Type 0) (m : Meaning) (c d : CallerView) : Type 0 where
+  pub waiting : HasWaitedUntil ends m c.seat d.seat
   pub tries : StillTries m c d
 
 pub not_tried : (m : Meaning) (c : CallerView) → StillTries m c c
@@ -47,8 +47,8 @@ not_tried m c = record {
   worn = refl;
 }
 
-pub not_yet : (m : Meaning) (c : CallerView) → StillWaits m c c
-not_yet m c = record { waiting = none; tries = not_tried m c }
+pub not_yet : (ends : Bool → Type 0) (m : Meaning) (c : CallerView) → StillWaits ends m c c
+not_yet ends m c = record { waiting = none; tries = not_tried m c }
 
 pub later_is : (a : Answered) → is_later a ≡ true → a ≡ answered.Later
 later_is answered.Later e = refl
@@ -80,16 +80,16 @@ module _ (m : Meaning) (c d e g : CallerView) (f : Footprint) (a : Answered) (st
     worn = learns.worn ∙ at_later (λ a. NotesWear d (verdict_of a) e) notes ∙ still.worn;
   }
 
-pub waits_on : (m : Meaning) (c d e g : CallerView) (f : Footprint) (a : Answered) → StillWaits m c d → is_later a ≡ true → IsTold m (verdict_of a) d f e → Remembers d e → AllTries m f d.seat e.seat → Settles m (verdict_of a) d.seat f e.seat → NotesWear d (verdict_of a) e → OnlyLearns e g
-    → Hangs f.reads e.seat g.seat → StillWaits m c g
-waits_on m c d e g f a still later told remembers tries settles notes learns hangs = record {
+pub waits_on : (ends : Bool → Type 0) (m : Meaning) (c d e g : CallerView) (f : Footprint) (a : Answered) → StillWaits ends m c d → is_later a ≡ true → IsTold m (verdict_of a) d f e → Remembers d e → AllTries m f d.seat e.seat → Settles m (verdict_of a) d.seat f e.seat → NotesWear d (verdict_of a) e → OnlyLearns e g
+    → HangsUntil ends f.reads e.seat g.seat → StillWaits ends m c g
+waits_on ends m c d e g f a still later told remembers tries settles notes learns hangs = record {
   waiting = again d.seat e.seat g.seat f still.waiting tries (at_later m c d e g f a still.tries later (λ a. Settles m (verdict_of a) d.seat f e.seat) settles) hangs;
   tries = tries_on m c d e g f a still.tries later told remembers notes learns;
 }
 
 -- ---- the last try
 
-pub commits_at_last : (m : Meaning) (c d e : CallerView) (f : Footprint) (a : Answered) → StillWaits m c d → AllTries m f d.seat e.seat → Settles m (verdict_of a) d.seat f e.seat → is_later a ≡ false → CommitsAtLast m a f c.seat e.seat
+pub commits_at_last : (m : Meaning) (c d e : CallerView) (f : Footprint) (a : Answered) → StillWaits (λ heard. heard ≡ true) m c d → AllTries m f d.seat e.seat → Settles m (verdict_of a) d.seat f e.seat → is_later a ≡ false → CommitsAtLast m a f c.seat e.seat
 commits_at_last m c d e f a still t s n = record { last = d.seat; waiting = still.waiting; tries = t; settles = s; answers = n }
 
 numbers_of : (h : History) → map (λ (e : Entry). e.number) (entries h) ≡ entry_numbers h
@@ -101,7 +101,7 @@ rising m c e f a l view =
     subst (λ own. IsRising (map (λ (x : Entry). x.number) own)) (sym (ap (λ (x : CallerView). x.own) view))
     (subst IsRising (sym (numbers_of (own_entries e.seat))) (rises_at_last c.seat e.seat m a f l))
 
-and_one : (m : Meaning) (c d e : CallerView) (f : Footprint) → StillWaits m c d → AddsOne d f e → IsRising (map (λ (x : Entry). x.number) e.own) → AddsLooksAndOne m c f e
+and_one : (m : Meaning) (c d e : CallerView) (f : Footprint) → StillWaits (λ heard. heard ≡ true) m c d → AddsOne d f e → IsRising (map (λ (x : Entry). x.number) e.own) → AddsLooksAndOne m c f e
 and_one m c d e f still one rises = record {
   looks = still.tries.adds.looks;
   each = still.tries.adds.each;
@@ -110,7 +110,7 @@ and_one m c d e f still one rises = record {
   rising = rises;
 }
 
-pub told_at_last : (m : Meaning) (c d e : CallerView) (f : Footprint) (a : Answered) → StillWaits m c d → IsTold m (verdict_of a) d f e → is_later a ≡ false → IsRising (map (λ (x : Entry). x.number) e.own) → IsToldAtLast m a c f e
+pub told_at_last : (m : Meaning) (c d e : CallerView) (f : Footprint) (a : Answered) → StillWaits (λ heard. heard ≡ true) m c d → IsTold m (verdict_of a) d f e → is_later a ≡ false → IsRising (map (λ (x : Entry). x.number) e.own) → IsToldAtLast m a c f e
 told_at_last m c d e f (answered.Done r) still t n rises = (t.0, and_one m c d e f still t.1 rises)
 told_at_last m c d e f answered.TooLarge still t n rises = (t.0, (t.1.0, and_one m c d e f still t.1.1 rises))
 told_at_last m c d e f (answered.WornLocation loc) still t n rises = (t.0, (t.1.0, and_one m c d e f still t.1.1 rises))

@@ -2,6 +2,7 @@
 
 ghost use Rattle.std.specs.Prelude.{◌≡◌, ◌≤◌, true, None};
 ghost use Rattle.kc_await.specs.Adds.{IsToldInTime};
+ghost use Rattle.kc_await.specs.Waiting.{CommitsInTime};
 ghost use Rattle.kc_model.specs.Footprint.{IsBelow};
 ghost use Rattle.kc_store.specs.Knows.{NotesWear, Remembers};
 ghost use Rattle.kc_store.specs.Verdicts.{has_entry, verdict_of};
@@ -46,7 +47,9 @@ impl<'a, C: Clock> Limit for Deadline<'a, C> {
 
     fn left(&self) -> Option<Duration> {
         let now = Instant::now(self.clock).ok()?;
-        self.at.checked_duration_since(now).filter(|left| !left.is_zero())
+        self.at
+            .checked_duration_since(now)
+            .filter(|left| !left.is_zero())
     }
 }
 
@@ -65,6 +68,7 @@ pub fn commit_waiting_until<R: Wait, L: Limit, T: Transact>(
     requires fit { T.is_fit transaction.now }
     requires within { T.end transaction.now ≤ store.now.locations }
     ensures told { IsToldInTime (limited (T.most transaction.now) (T.meaning transaction.now)) result caller.old footprint.new caller.new }
+    ensures waits { CommitsInTime (limited (T.most transaction.now) (T.meaning transaction.now)) result footprint.new caller.old.seat caller.new.seat }
     ensures over { result ≡ answered.Later → L.is_over limit.now }
     ensures remembers { Remembers caller.old caller.new }
     ensures within { has_entry (verdict_of result) ≡ true → IsBelow (T.end transaction.now) footprint.new }

@@ -1,6 +1,6 @@
 //! Commits that wait no longer than to a deadline.
 
-ghost use Rattle.std.specs.Prelude.{◌≡◌, ◌<◌};
+ghost use Rattle.std.specs.Prelude.{◌≡◌, ◌<◌, ◌≤◌};
 
 use crate::asserts::equal;
 use crate::callers::{ONE, UNTIL_ONE, opened, reply};
@@ -8,21 +8,22 @@ use kc_await::{Deadline, commit_waiting_until};
 use kc_loc::{LocOp, Rel};
 use kc_model::{Footprint, Loc, Reply};
 use kc_store::{Answered, Caller, Store};
+use kc_xt::Transact;
 use std::sync::Wait;
 use std::thread;
 use std::time::{Clock, Duration, Instant};
 
-// What a commit of an operation on location 0 answers that waits for so long at most; None where the clock can't be read.
-fn answered<R: Wait + Clock>(
+// What a commit answers that waits for so long at most; None where the clock can't be read.
+fn answered<R: Wait + Clock, T: Transact>(
     rt: &R,
     store: &Store,
     caller: &mut Caller,
-    operation: LocOp,
+    transaction: &T,
     micros: u64,
 ) -> Option<Answered>
     requires caller { caller.old.of ≡ store.now }
-    requires fit { LocOp.is_fit operation }
-    requires within { LocOp.end operation ≤ store.now.locations }
+    requires fit { T.is_fit transaction.now }
+    requires within { T.end transaction.now ≤ store.now.locations }
     ensures { caller.new.of ≡ caller.old.of }
 {
     let now = Instant::now(rt).ok()?;
@@ -31,7 +32,7 @@ fn answered<R: Wait + Clock>(
         rt,
         store,
         caller,
-        &operation,
+        transaction,
         &Deadline::new(rt, at),
         &mut Footprint::new(),
     ))
@@ -45,7 +46,7 @@ fn ended<R: Wait + Clock>(rt: &R, store: &Store, caller: &mut Caller, waits: u32
 {
     let mut later: u32 = 0;
     for _ in 0..waits {
-        if answered(rt, store, caller, UNTIL_ONE, 20) == Some(Answered::Later) {
+        if answered(rt, store, caller, &UNTIL_ONE, 20) == Some(Answered::Later) {
             later = later.wrapping_add(1);
         }
     }
@@ -59,26 +60,22 @@ fn a_thousand_deadlines_pass_and_each_hang_is_left(rt: HostRuntime) {
     equal(&rt, reply(&rt, &store, &mut a, &ONE), Some(Reply::Unit));
     equal(
         &rt,
-        answered(&rt, &store, &mut b, UNTIL_ONE, 20),
+        answered(&rt, &store, &mut b, &UNTIL_ONE, 20),
         Some(Answered::Done(Reply::Unit)),
     );
 }
 
 // Waits for its turn, for a minute at most, and hands it on, a thousand times: how often it came.
-fn turns<R: Wait + Clock>(
-    rt: &R,
-    store: &Store,
-    mut caller: Caller,
-    mine: u32,
-    next: u32,
-) -> u32
+fn turns<R: Wait + Clock>(rt: &R, store: &Store, mut caller: Caller, mine: u32, next: u32) -> u32
     requires caller { caller.of ≡ store.now }
     requires location { 0 < store.now.locations }
 {
     let mut came: u32 = 0;
     for _ in 0..1_000 {
         let turn = LocOp::Check(Loc(0), Rel::Eq, mine);
-        if answered(rt, store, &mut caller, turn, 60_000_000) == Some(Answered::Done(Reply::Unit)) {
+        if answered(rt, store, &mut caller, &turn, 60_000_000)
+            == Some(Answered::Done(Reply::Unit))
+        {
             came = came.wrapping_add(1);
         }
         reply(rt, store, &mut caller, &LocOp::Set(Loc(0), next));
@@ -100,16 +97,15 @@ fn a_thousand_puts_beat_their_deadlines(rt: HostRuntime) {
 
 #[test]
 fn a_deadline_that_has_passed_leaves_one_try(rt: HostRuntime) {
-    let (store, mut a, b) = opened(&rt, &[0]);
+    let (store, mut a, _b) = opened(&rt, &[0]);
     equal(
         &rt,
-        answered(&rt, &store, &mut a, UNTIL_ONE, 0),
+        answered(&rt, &store, &mut a, &UNTIL_ONE, 0),
         Some(Answered::Later),
     );
     equal(
         &rt,
-        answered(&rt, &store, &mut a, ONE, 0),
+        answered(&rt, &store, &mut a, &ONE, 0),
         Some(Answered::Done(Reply::Unit)),
     );
-    let (_, _rest) = (a, b);
 }

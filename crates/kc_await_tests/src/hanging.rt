@@ -4,7 +4,7 @@ ghost use Rattle.std.specs.Prelude.{◌≡◌, ◌<◌, ◌≤◌, IfSome};
 
 use crate::asserts::{equal, holds};
 use crate::callers::{ONE, UNTIL_ONE, open_two, opened, reply};
-use kc_await::{HangState, Hanging, hang_step, signalled};
+use kc_await::{HangState, Hanging, hang_step, park_for, signalled};
 use kc_loc::{LocOp, Rel};
 use kc_model::{Footprint, Loc, Reply};
 use kc_queue::{Queue, QueueAct, QueueOp};
@@ -12,6 +12,7 @@ use kc_store::{Caller, Fate, Store, Verdict, Wakes};
 use kc_xt::{Transact, Trial, Went};
 use std::alloc::Global;
 use std::sync::Wait;
+use std::time::Duration;
 
 // A hang on what a try of this read; None where the try is answered neither Done nor Later, or read nothing.
 fn hanging_behind<T: Transact>(
@@ -75,6 +76,17 @@ fn leave<R: Wait>(rt: &R, store: &Store, hanging: &mut Hanging) -> u64
     step_on(rt, store, hanging)
 }
 
+// Whether a caller that hangs was signalled, once it has slept for a millisecond at most; None where it doesn't hang.
+fn parked<R: Wait>(rt: &R, store: &Store, hanging: &mut Hanging) -> Option<bool>
+    requires { hanging.old.caller.of ≡ store.now }
+    ensures { hanging.new.caller.of ≡ hanging.old.caller.of }
+{
+    let HangState::Hung = hanging.state() else {
+        return None;
+    };
+    Some(park_for(rt, store, hanging, Duration::from_millis(1)))
+}
+
 #[test]
 fn a_put_signals_who_hangs_on_it(rt: HostRuntime) {
     let (store, mut a, b) = opened(&rt, &[0]);
@@ -92,6 +104,17 @@ fn a_put_signals_who_hangs_on_it(rt: HostRuntime) {
         reply(&rt, &store, &mut b, &UNTIL_ONE),
         Some(Reply::Unit),
     );
+}
+
+#[test]
+fn who_parks_for_a_while_is_told_whether_it_was_signalled(rt: HostRuntime) {
+    let (store, mut a, b) = opened(&rt, &[0]);
+    let mut hanging = hanging_behind(&store, b, &UNTIL_ONE).expect(&rt, "nothing to hang on");
+    step_on(&rt, &store, &mut hanging);
+    let while_hung = parked(&rt, &store, &mut hanging);
+    equal(&rt, while_hung, Some(false));
+    reply(&rt, &store, &mut a, &ONE);
+    equal(&rt, parked(&rt, &store, &mut hanging), Some(true));
 }
 
 #[test]

@@ -53,11 +53,11 @@ pub fn wait_a_while<R: Wait>(
     ensures hangs { HangsAWhile reads.now seat.old seat.new }
     ensures free { (is_idle seat.new.seat.work ≡ true) × (seat.new.seat.blocked ≡ false) }
 {
-    let mut hang = Hang::on(reads);
-    if let HangState::Hung = step_on(rt, table, seat, &mut hang) {
+    let mut wait = Hang::on(reads);
+    if let HangState::Hung = step_on(rt, table, seat, &mut wait) {
         table.park_for(rt, seat, limit);
-        hang.leave();
-        step_on(rt, table, seat, &mut hang);
+        wait.leave();
+        step_on(rt, table, seat, &mut wait);
     }
 }
 

@@ -46,13 +46,7 @@ impl Store {
         ensures learns { OnlyLearns caller.old caller.new }
         ensures hangs { HangsAWhile footprint.now.reads caller.old.seat caller.new.seat }
     {
-        wait_a_while(
-            rt,
-            &self.table,
-            &mut caller.seat,
-            &footprint.reads,
-            limit,
-        );
+        wait_a_while(rt, &self.table, &mut caller.seat, &footprint.reads, limit);
     }
 }
 

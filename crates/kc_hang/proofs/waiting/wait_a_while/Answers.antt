@@ -15,10 +15,10 @@ returns-in-Hung-clause-hangs g c =
     let b = c.park_for.new.seat in
     let last = c.step_on-in-Hung in
     let left : c.leave.new.self ≡ record { reads = reads; state = Leaving; begun = false } =
-    c.leave.ensures ∙ ap (λ (h : HangView). record h { state = Leaving; begun = false }) c.in-Hung.ensures.hang ∙ ap (λ (h : HangView). record h { state = Leaving; begun = false }) c.on-hang.ensures in
+    c.leave.ensures ∙ ap (λ (h : HangView). record h { state = Leaving; begun = false }) c.in-Hung.ensures.hang ∙ ap (λ (h : HangView). record h { state = Leaving; begun = false }) c.on-wait.ensures in
     (hangs_left (λ heard. ⊤) reads v last.new.seat c.park_for.result a b last.result tt
-    (subst (λ (h : HangView). DoesTask v (task_of h) a) c.on-hang.ensures c.in-Hung.ensures.does)
-    (subst (λ (h : HangView). ShowsHang h.reads h.state Hung a) c.on-hang.ensures c.in-Hung.ensures.shows)
+    (subst (λ (h : HangView). DoesTask v (task_of h) a) c.on-wait.ensures c.in-Hung.ensures.does)
+    (subst (λ (h : HangView). ShowsHang h.reads h.state Hung a) c.on-wait.ensures c.in-Hung.ensures.shows)
     c.park_for.ensures.signalled last.ensures.ended
     (subst (λ (h : HangView). DoesTask b (task_of h) last.new.seat) left last.ensures.does)
     (subst (λ (h : HangView). ShowsHang h.reads h.state last.result last.new.seat) left last.ensures.shows)).0
@@ -29,6 +29,6 @@ returns-in_default g c =
     let v = c.args.seat.now in
     let r = c.step_on in
     let h = hangs_at_once (λ heard. ⊤) reads v r.new.seat r.result c.in_default.not-Hung r.ensures.ended
-    (subst (λ (h : HangView). DoesTask v (task_of h) r.new.seat) c.on-hang.ensures r.ensures.does)
-    (subst (λ (h : HangView). ShowsHang h.reads h.state r.result r.new.seat) c.on-hang.ensures r.ensures.shows) in
+    (subst (λ (h : HangView). DoesTask v (task_of h) r.new.seat) c.on-wait.ensures r.ensures.does)
+    (subst (λ (h : HangView). ShowsHang h.reads h.state r.result r.new.seat) c.on-wait.ensures r.ensures.shows) in
     record { hangs = h.0; free = h.1 }
