@@ -1,7 +1,7 @@
 -- What parts lead to, by what their parts lead to.
 use Rattle.std.proofs.Common.{◌≡◌, ◌⊎◌, ℕ, Bool, true, false, cond, List, Option, Some, None, inl, inr, refl, sym, ap, subst}
 use Rattle.kc_compose.proofs.Ran.{ran}
-use Rattle.kc_compose.specs.Leads.{Leads, PutsNothingAt}
+use Rattle.kc_compose.specs.Leads.{LeadsTo, PutsNothingAt}
 use Rattle.kc_compose.specs.Meaning.{fed_meaning, fed_on, give_meaning, give_run, given_touches, number_said, say_meaning, unless_meaning, wait_meaning, wait_run, when_meaning}
 use Rattle.kc_compose.specs.Sort.{is_of}
 use Rattle.kc_compose.specs.declared.sort.Sort.{Sort}
@@ -31,7 +31,7 @@ gives_nothing s p n m ks a e of = nothing_given s (p n m ks).outcome (p n m ks).
 -- ---- by parts
 
 module _ (holds : (ℕ → ℕ) → Type 0) where
-  pub leads_then : (R T : (ℕ → ℕ) → Reply → (ℕ → ℕ) → Type 0) (S : Reply → (ℕ → ℕ) → Reply → (ℕ → ℕ) → Type 0) (p : Meaning) (f : Reply → Meaning) → Leads holds R p → ((b : Reply) → Leads holds (S b) (f b)) → ((m w x : ℕ → ℕ) (b a : Reply) → R m b w → S b w a x → T m a x) → Leads holds T (then_meaning p f)
+  pub leads_then : (R T : (ℕ → ℕ) → Reply → (ℕ → ℕ) → Type 0) (S : Reply → (ℕ → ℕ) → Reply → (ℕ → ℕ) → Type 0) (p : Meaning) (f : Reply → Meaning) → LeadsTo holds R p → ((b : Reply) → LeadsTo holds (S b) (f b)) → ((m w x : ℕ → ℕ) (b a : Reply) → R m b w → S b w a x → T m a x) → LeadsTo holds T (then_meaning p f)
   leads_then R T S p f first second both n m ks a h e =
       let w = left p n m ks in
       let o = ran (p n m ks).outcome (p n m ks).touches (λ b. f b n w (touched_after ks (p n m ks).touches)) m a e in
@@ -39,38 +39,38 @@ module _ (holds : (ℕ → ℕ) → Type 0) where
       let two = second o.said n w (touched_after ks (p n m ks).touches) a one.0 o.second in
       (subst holds (sym o.map) two.0, subst (T m a) (sym o.map) (both m w _ o.said a one.1 two.1))
 
-  pub leads_more : (R T : (ℕ → ℕ) → Reply → (ℕ → ℕ) → Type 0) (p : Meaning) → Leads holds R p → ((m w : ℕ → ℕ) (a : Reply) → holds m → R m a w → T m a w) → Leads holds T p
+  pub leads_more : (R T : (ℕ → ℕ) → Reply → (ℕ → ℕ) → Type 0) (p : Meaning) → LeadsTo holds R p → ((m w : ℕ → ℕ) (a : Reply) → holds m → R m a w → T m a w) → LeadsTo holds T p
   leads_more R T p h more n m ks a there e = let one = h n m ks a there e in (one.0, more m _ a there one.1)
 
   -- of more it holds, as long as that is kept too
-  pub leads_also : (also : (ℕ → ℕ) → Type 0) (R : (ℕ → ℕ) → Reply → (ℕ → ℕ) → Type 0) (p : Meaning) → Leads holds R p → ((m : ℕ → ℕ) → also m → holds m) → ((m w : ℕ → ℕ) (a : Reply) → also m → holds w → R m a w → also w) → Leads also R p
+  pub leads_also : (also : (ℕ → ℕ) → Type 0) (R : (ℕ → ℕ) → Reply → (ℕ → ℕ) → Type 0) (p : Meaning) → LeadsTo holds R p → ((m : ℕ → ℕ) → also m → holds m) → ((m w : ℕ → ℕ) (a : Reply) → also m → holds w → R m a w → also w) → LeadsTo also R p
   leads_also also R p h has keeps n m ks a there e = let one = h n m ks a (has m there) e in (keeps m _ a there one.0 one.1, one.1)
 
-  pub leads_say : (r : Reply) → Leads holds (λ m a w. (a ≡ r) × (w ≡ m)) (say_meaning r)
+  pub leads_say : (r : Reply) → LeadsTo holds (λ m a w. (a ≡ r) × (w ≡ m)) (say_meaning r)
   leads_say r n m ks a h e = (h, (cc, refl))
 
-  by_choice : (t : Bool) (Q W : (ℕ → ℕ) → Reply → (ℕ → ℕ) → Type 0) (q r : Meaning) → Leads holds Q q → Leads holds W r → Leads holds (λ m a w. ((t ≡ true) × Q m a w) ⊎ ((t ≡ false) × W m a w)) (cond t q r)
+  by_choice : (t : Bool) (Q W : (ℕ → ℕ) → Reply → (ℕ → ℕ) → Type 0) (q r : Meaning) → LeadsTo holds Q q → LeadsTo holds W r → LeadsTo holds (λ m a w. ((t ≡ true) × Q m a w) ⊎ ((t ≡ false) × W m a w)) (cond t q r)
   by_choice true Q W q r h g n m ks a there e = let one = h n m ks a there e in (one.0, inl (refl, one.1))
   by_choice false Q W q r h g n m ks a there e = let one = g n m ks a there e in (one.0, inr (refl, one.1))
 
-  pub leads_when : (s : Sort) (P Q W T : (ℕ → ℕ) → Reply → (ℕ → ℕ) → Type 0) (p q r : Meaning) → Leads holds P p → Leads holds Q q → Leads holds W r → ((m w x : ℕ → ℕ) (b a : Reply) → P m b w → is_of s b ≡ true → Q w a x → T m a x) → ((m w x : ℕ → ℕ) (b a : Reply) → P m b w → is_of s b ≡ false → W w a x → T m a x) → Leads holds T (when_meaning s p q r)
+  pub leads_when : (s : Sort) (P Q W T : (ℕ → ℕ) → Reply → (ℕ → ℕ) → Type 0) (p q r : Meaning) → LeadsTo holds P p → LeadsTo holds Q q → LeadsTo holds W r → ((m w x : ℕ → ℕ) (b a : Reply) → P m b w → is_of s b ≡ true → Q w a x → T m a x) → ((m w x : ℕ → ℕ) (b a : Reply) → P m b w → is_of s b ≡ false → W w a x → T m a x) → LeadsTo holds T (when_meaning s p q r)
   leads_when s P Q W T p q r ask then otherwise is isnt = leads_then P T (λ b m a w. ((is_of s b ≡ true) × Q m a w) ⊎ ((is_of s b ≡ false) × W m a w)) p (λ b. cond (is_of s b) q r) ask (λ b. by_choice (is_of s b) Q W q r then otherwise) both
     where
       both : (m w x : ℕ → ℕ) (b a : Reply) → P m b w → ((is_of s b ≡ true) × Q w a x) ⊎ ((is_of s b ≡ false) × W w a x) → T m a x
       both m w x b a one (inl (e, two)) = is m w x b a one e two
       both m w x b a one (inr (e, two)) = isnt m w x b a one e two
 
-  pub leads_unless : (s : Sort) (P Q T : (ℕ → ℕ) → Reply → (ℕ → ℕ) → Type 0) (p q : Meaning) → Leads holds P p → Leads holds Q q → ((m w : ℕ → ℕ) (b : Reply) → P m b w → is_of s b ≡ true → T m b w) → ((m w x : ℕ → ℕ) (b a : Reply) → P m b w → is_of s b ≡ false → Q w a x → T m a x) → Leads holds T (unless_meaning s p q)
+  pub leads_unless : (s : Sort) (P Q T : (ℕ → ℕ) → Reply → (ℕ → ℕ) → Type 0) (p q : Meaning) → LeadsTo holds P p → LeadsTo holds Q q → ((m w : ℕ → ℕ) (b : Reply) → P m b w → is_of s b ≡ true → T m b w) → ((m w x : ℕ → ℕ) (b a : Reply) → P m b w → is_of s b ≡ false → Q w a x → T m a x) → LeadsTo holds T (unless_meaning s p q)
   leads_unless s P Q T p q first second ends goes = leads_then P T (λ b m a w. ((is_of s b ≡ true) × ((a ≡ b) × (w ≡ m))) ⊎ ((is_of s b ≡ false) × Q m a w)) p (λ b. cond (is_of s b) (say_meaning b) q) first (λ b. by_choice (is_of s b) (λ m a w. (a ≡ b) × (w ≡ m)) Q (say_meaning b) q (leads_say b) second) both
     where
       both : (m w x : ℕ → ℕ) (b a : Reply) → P m b w → ((is_of s b ≡ true) × ((a ≡ b) × (x ≡ w))) ⊎ ((is_of s b ≡ false) × Q w a x) → T m a x
       both m w x b a one (inl (e, (same, stays))) = subst (λ c. T m c x) (sym same) (subst (T m b) (sym stays) (ends m w b one e))
       both m w x b a one (inr (e, two)) = goes m w x b a one e two
 
-  pub leads_fed : (P T : (ℕ → ℕ) → Reply → (ℕ → ℕ) → Type 0) (S : ℕ → (ℕ → ℕ) → Reply → (ℕ → ℕ) → Type 0) (p : Meaning) (f : ℕ → Meaning) → Leads holds P p → ((k : ℕ) → Leads holds (S k) (f k)) → ((m w x : ℕ → ℕ) (b a : Reply) (k : ℕ) → P m b w → number_said b ≡ Some k → S k w a x → T m a x) → ((m w : ℕ → ℕ) (b : Reply) → P m b w → number_said b ≡ None → T m b w) → Leads holds T (fed_meaning p f)
+  pub leads_fed : (P T : (ℕ → ℕ) → Reply → (ℕ → ℕ) → Type 0) (S : ℕ → (ℕ → ℕ) → Reply → (ℕ → ℕ) → Type 0) (p : Meaning) (f : ℕ → Meaning) → LeadsTo holds P p → ((k : ℕ) → LeadsTo holds (S k) (f k)) → ((m w x : ℕ → ℕ) (b a : Reply) (k : ℕ) → P m b w → number_said b ≡ Some k → S k w a x → T m a x) → ((m w : ℕ → ℕ) (b : Reply) → P m b w → number_said b ≡ None → T m b w) → LeadsTo holds T (fed_meaning p f)
   leads_fed P T S p f first second feeds ends = leads_then P T (λ b m a w. ((k : ℕ) × (number_said b ≡ Some k) × S k m a w) ⊎ ((number_said b ≡ None) × ((a ≡ b) × (w ≡ m)))) p (λ b. fed_on f b (number_said b)) first (λ b. by_number b (number_said b)) both
     where
-      by_number : (b : Reply) (o : Option ℕ) → Leads holds (λ m a w. ((k : ℕ) × (o ≡ Some k) × S k m a w) ⊎ ((o ≡ None) × ((a ≡ b) × (w ≡ m)))) (fed_on f b o)
+      by_number : (b : Reply) (o : Option ℕ) → LeadsTo holds (λ m a w. ((k : ℕ) × (o ≡ Some k) × S k m a w) ⊎ ((o ≡ None) × ((a ≡ b) × (w ≡ m)))) (fed_on f b o)
       by_number b (Some k) n m ks a there e = let one = second k n m ks a there e in (one.0, inl (k, refl, one.1))
       by_number b None n m ks a there e = let one = leads_say b n m ks a there e in (one.0, inr (refl, one.1))
 
@@ -88,7 +88,7 @@ module _ (holds : (ℕ → ℕ) → Type 0) where
   given s R m too_large ts a there one e = absurd (cc)
 
   -- what is given back leaves all as it was
-  pub leads_give : (s : Sort) (R : (ℕ → ℕ) → Reply → (ℕ → ℕ) → Type 0) (p : Meaning) → Leads holds R p → Leads holds (λ m a w. ((is_of s a ≡ true) × (w ≡ m)) ⊎ ((is_of s a ≡ false) × R m a w)) (give_meaning s p)
+  pub leads_give : (s : Sort) (R : (ℕ → ℕ) → Reply → (ℕ → ℕ) → Type 0) (p : Meaning) → LeadsTo holds R p → LeadsTo holds (λ m a w. ((is_of s a ≡ true) × (w ≡ m)) ⊎ ((is_of s a ≡ false) × R m a w)) (give_meaning s p)
   leads_give s R p h n m ks a there e = given s R m (p n m ks).outcome (p n m ks).touches a there (λ b q. h n m ks b there q) e
 
   waited : (s : Sort) (R : (ℕ → ℕ) → Reply → (ℕ → ℕ) → Type 0) (m : ℕ → ℕ) (o : Outcome) (ts : List Touch) (a : Reply) → ((b : Reply) → o ≡ replied b → holds (map_after m ts) × R m b (map_after m ts)) → (wait_run s o ts).outcome ≡ replied a → holds (map_after m (wait_run s o ts).touches) × ((is_of s a ≡ false) × R m a (map_after m (wait_run s o ts).touches))
@@ -101,5 +101,5 @@ module _ (holds : (ℕ → ℕ) → Type 0) where
   waited s R m too_large ts a one e = absurd (cc)
 
   -- what waits in place of a reply does else what it does
-  pub leads_wait : (s : Sort) (R : (ℕ → ℕ) → Reply → (ℕ → ℕ) → Type 0) (p : Meaning) → Leads holds R p → Leads holds (λ m a w. (is_of s a ≡ false) × R m a w) (wait_meaning s p)
+  pub leads_wait : (s : Sort) (R : (ℕ → ℕ) → Reply → (ℕ → ℕ) → Type 0) (p : Meaning) → LeadsTo holds R p → LeadsTo holds (λ m a w. (is_of s a ≡ false) × R m a w) (wait_meaning s p)
   leads_wait s R p h n m ks a there e = waited s R m (p n m ks).outcome (p n m ks).touches a (λ b q. h n m ks b there q) e

@@ -8,7 +8,7 @@ use Rattle.kc_cells.specs.Promise.{promise_cells_end, promise_meaning, promise_p
 use Rattle.kc_cells.specs.declared.promise.Promise.{Promise}
 use Rattle.kc_cells.specs.declared.promise.PromiseAct.{PromiseAct}
 use Rattle.kc_cells.specs.declared.promise.PromiseOp.{PromiseOp}
-use Rattle.kc_compose.specs.Leads.{Leads}
+use Rattle.kc_compose.specs.Leads.{LeadsTo}
 use Rattle.kc_hash.proofs.Chained.{shows}
 use Rattle.kc_hash.proofs.HashLaw.{hash_stays}
 use Rattle.kc_hash.proofs.Values.{hash_means}
@@ -31,14 +31,14 @@ abbrev pub OnlyWithin : ℕ → ℕ → (ℕ → ℕ) → (ℕ → ℕ) → Type
 OnlyWithin lo hi m w = (l : ℕ) → IsOutside lo hi l → w l ≡ m l
 
 -- what keeps to these cells, where all that holds is of others
-pub leads_within : (lo hi : ℕ) (holds : (ℕ → ℕ) → Type 0) (g : Program) → Stays lo hi g → ((m w : ℕ → ℕ) → OnlyWithin lo hi m w → holds m → holds w) → Leads holds (λ m a w. OnlyWithin lo hi m w) (meaning g)
+pub leads_within : (lo hi : ℕ) (holds : (ℕ → ℕ) → Type 0) (g : Program) → Stays lo hi g → ((m w : ℕ → ℕ) → OnlyWithin lo hi m w → holds m → holds w) → LeadsTo holds (λ m a w. OnlyWithin lo hi m w) (meaning g)
 leads_within lo hi holds g stays keeps n m ks a h e = let out : OnlyWithin lo hi m _ = λ l o. stays_outside lo hi g stays n m ks l o in (keeps m _ out h, out)
 
 fits : (o : Outcome) (a : Reply) → o ≡ replied a → o ≢ too_large
 fits o a e = λ q. cc
 
 -- it replies and leaves what its value says of what the cells show
-pub leads_value : {C : Type 0} (stands : Standing C) (shown : (ℕ → ℕ) → C) (lo hi : ℕ) (g : Program) (v : C → Value C) → ((m : ℕ → ℕ) (c : C) → stands m c → shown m ≡ c) → Stays lo hi g → ((c : C) → MeansItsValue stands (meaning g) c (v c)) → Leads (WellFormed stands) (λ m a w. ((v (shown m)).outcome ≡ replied a) × (shown w ≡ (v (shown m)).content) × OnlyWithin lo hi m w) (meaning g)
+pub leads_value : {C : Type 0} (stands : Standing C) (shown : (ℕ → ℕ) → C) (lo hi : ℕ) (g : Program) (v : C → Value C) → ((m : ℕ → ℕ) (c : C) → stands m c → shown m ≡ c) → Stays lo hi g → ((c : C) → MeansItsValue stands (meaning g) c (v c)) → LeadsTo (WellFormed stands) (λ m a w. ((v (shown m)).outcome ≡ replied a) × (shown w ≡ (v (shown m)).content) × OnlyWithin lo hi m w) (meaning g)
 leads_value stands shown lo hi g v shown_is stays means n m ks a (c, stood) e =
     let was = shown_is m c stood in
     let one = means c n m ks stood (fits _ a e) in (
@@ -46,15 +46,15 @@ leads_value stands shown lo hi g v shown_is stays means n m ks a (c, stood) e =
       (ap (λ d. (v d).outcome) was ∙ sym one.0 ∙ e, shown_is _ (v c).content one.1 ∙ ap (λ d. (v d).content) (sym was), λ l o. stays_outside lo hi g stays n m ks l o),
     )
 
-pub leads_promise : (end : Promise) (act : PromiseAct) → (let o : PromiseOp = record { promise = end; act = act } in Leads (WellFormed (PlaceHolds end.base.0)) (λ m a w. ((promise_value act (value_held end.base.0 m)).outcome ≡ replied a) × (value_held end.base.0 w ≡ (promise_value act (value_held end.base.0 m)).content) × OnlyWithin end.base.0 (promise_cells_end end) m w) (promise_meaning o))
+pub leads_promise : (end : Promise) (act : PromiseAct) → (let o : PromiseOp = record { promise = end; act = act } in LeadsTo (WellFormed (PlaceHolds end.base.0)) (λ m a w. ((promise_value act (value_held end.base.0 m)).outcome ≡ replied a) × (value_held end.base.0 w ≡ (promise_value act (value_held end.base.0 m)).content) × OnlyWithin end.base.0 (promise_cells_end end) m w) (promise_meaning o))
 leads_promise end act = let o : PromiseOp = record { promise = end; act = act } in leads_value (PlaceHolds end.base.0) (value_held end.base.0) end.base.0 (promise_cells_end end) (promise_program end act replies) (promise_value act) (λ m c. holds_held end.base.0 m c) (promise_stays o) (promise_means o)
 
 module _ (h : Hash) where
-  leads_table : (act : HashAct) → (let o : HashOp = record { hash = h; act = act } in Leads (WellFormed (HashStandsFor h)) (λ m a w. ((hash_value h act (hash_shown h m)).outcome ≡ replied a) × (hash_shown h w ≡ (hash_value h act (hash_shown h m)).content) × OnlyWithin h.base.0 (hash_cells_end h) m w) (hash_meaning o))
+  leads_table : (act : HashAct) → (let o : HashOp = record { hash = h; act = act } in LeadsTo (WellFormed (HashStandsFor h)) (λ m a w. ((hash_value h act (hash_shown h m)).outcome ≡ replied a) × (hash_shown h w ≡ (hash_value h act (hash_shown h m)).content) × OnlyWithin h.base.0 (hash_cells_end h) m w) (hash_meaning o))
   leads_table act = let o : HashOp = record { hash = h; act = act } in leads_value (HashStandsFor h) (hash_shown h) h.base.0 (hash_cells_end h) (hash_program h act replies) (hash_value h act) (shows h) (hash_stays o) (hash_means o)
 
   -- a key that is asked for
-  pub leads_find : (key : ℕ) → (let o : HashOp = record { hash = h; act = find key } in Leads (WellFormed (HashStandsFor h)) (λ m a w. (a ≡ found_reply (value_at (hash_shown h m) key)) × (hash_shown h w ≡ hash_shown h m) × OnlyWithin h.base.0 (hash_cells_end h) m w) (hash_meaning o))
+  pub leads_find : (key : ℕ) → (let o : HashOp = record { hash = h; act = find key } in LeadsTo (WellFormed (HashStandsFor h)) (λ m a w. (a ≡ found_reply (value_at (hash_shown h m) key)) × (hash_shown h w ≡ hash_shown h m) × OnlyWithin h.base.0 (hash_cells_end h) m w) (hash_meaning o))
   leads_find key n m ks a there e =
       let one = leads_table (find key) n m ks a there e in
       let said : a ≡ found_reply (value_at (hash_shown h m) key) = cc in
@@ -72,7 +72,7 @@ module _ (h : Hash) where
       by_test false = inr refl
   put_leaves key value ps (Some v) e = inr refl
 
-  pub leads_put : (key value : ℕ) → (let o : HashOp = record { hash = h; act = put_in key value } in Leads (WellFormed (HashStandsFor h)) (λ m a w. PutsOne key value (hash_shown h m) (hash_shown h w) × OnlyWithin h.base.0 (hash_cells_end h) m w) (hash_meaning o))
+  pub leads_put : (key value : ℕ) → (let o : HashOp = record { hash = h; act = put_in key value } in LeadsTo (WellFormed (HashStandsFor h)) (λ m a w. PutsOne key value (hash_shown h m) (hash_shown h w) × OnlyWithin h.base.0 (hash_cells_end h) m w) (hash_meaning o))
   leads_put key value n m ks a there e =
       let one = leads_table (put_in key value) n m ks a there e in
       (one.0, (subst (PutsOne key value (hash_shown h m)) (sym one.1.1) (put_leaves key value (hash_shown h m) _ refl), one.1.2))

@@ -8,7 +8,7 @@ use Rattle.kc_cells.specs.declared.promise.Promise.{Promise}
 use Rattle.kc_cells.specs.declared.promise.PromiseAct.TheVariants.{Await as await, Resolve as resolve}
 use Rattle.kc_cells.specs.declared.promise.PromiseOp.{PromiseOp}
 use Rattle.kc_compose.proofs.Leads.{leads_fed, leads_give, leads_more, leads_say, leads_then, leads_unless, leads_wait, leads_when}
-use Rattle.kc_compose.specs.Leads.{Leads}
+use Rattle.kc_compose.specs.Leads.{LeadsTo}
 use Rattle.kc_compose.specs.Meaning.{both_meaning, fed_meaning, give_meaning, say_meaning, unless_meaning, wait_meaning, when_meaning}
 use Rattle.kc_compose.specs.Sort.{is_of}
 use Rattle.kc_compose.specs.declared.sort.Sort.{Sort}
@@ -25,7 +25,7 @@ use Rattle.kc_queue.specs.declared.operation.QueueAct.TheVariants as queue
 use Rattle.kc_queue.specs.declared.operation.QueueOp.{QueueOp}
 use Rattle.kc_queue.specs.declared.queue.Queue.{Queue}
 use Rattle.kc_sched.proofs.Parts.{Found, IsEndOf, Marked, On, Stays, Told, finds, marks, queues, tells}
-use Rattle.kc_sched.specs.Jobs.{EachGoes, EndsStay, GoesSo, HasParts, IsJob, IsSchedLaid, Job, JobGoes, cancelled, comes, done, ends, is_cancelled, is_settled, job_at, job_of, runs, starts, stays, unknown, waits}
+use Rattle.kc_sched.specs.Jobs.{EachGoes, EndsStay, GoesSo, HasParts, IsJob, IsSchedLaid, Job, JobGoes, cancelled, comes, done, ends, is_cancelled, is_settled_state, job_at, job_of, runs, starts, stays, unknown, waits}
 use Rattle.kc_sched.specs.declared.sched.Sched.{Sched}
 use Rattle.kc_sched.specs.declared.sched.TheConstants.{JOBS}
 use Rattle.kc_xt.specs.Meaning.{Meaning}
@@ -42,7 +42,7 @@ goes_is j k is starts = runs
 goes_is j k is is_cancelled = cancelled
 goes_is j k is (ends v) = done v
 
-untold : (j : Job) → IsJob j → is_settled j.state ≡ false → j.told ≡ None
+untold : (j : Job) → IsJob j → is_settled_state j.state ≡ false → j.told ≡ None
 untold j unknown e = refl
 untold j waits e = refl
 untold j runs e = refl
@@ -50,10 +50,10 @@ untold j cancelled e = absurd (cc)
 untold j (done v) e = absurd (cc)
 
 -- a job that was found in this state is so, if it is this one
-moved : (old : Option ℕ) (to : Option ℕ → Job) (this : Bool) (j k : Job) → is_settled old ≡ false → JobGoes (job_of old None) (to None) → (this ≡ true → j.state ≡ old) → k ≡ cond this (to j.told) j → IsJob j → JobGoes j k
+moved : (old : Option ℕ) (to : Option ℕ → Job) (this : Bool) (j k : Job) → is_settled_state old ≡ false → JobGoes (job_of old None) (to None) → (this ≡ true → j.state ≡ old) → k ≡ cond this (to j.told) j → IsJob j → JobGoes j k
 moved old to false j k unsettled step found e is = subst (JobGoes j) (sym e) (stays j)
 moved old to true j k unsettled step found e is =
-    let none = untold j is (ap is_settled (found refl) ∙ unsettled) in
+    let none = untold j is (ap is_settled_state (found refl) ∙ unsettled) in
     let was : j ≡ job_of old None = ap₂ job_of (found refl) none in
     subst (λ i. JobGoes i k) (sym was) (subst (JobGoes (job_of old None)) (sym (e ∙ ap to none)) step)
 
@@ -97,7 +97,7 @@ moving s job = wait_meaning Full (queue_meaning (put_in s.ready job))
 module _ (s : Sched) (laid : IsSchedLaid s) where
   module _ (i : ℕ) (lt : i < JOBS) where
     abbrev Does : (Job → Reply → Job → Type 0) → Meaning → Type 0
-    Does J = Leads (HasParts s) (On s laid i lt J)
+    Does J = LeadsTo (HasParts s) (On s laid i lt J)
 
     guarded : (job : ℕ) (sort : Sort) (old : Option ℕ) (Q : Job → Reply → Job → Type 0) (q : Meaning) (r : Reply) → Does Q q → ((o : Option ℕ) (b : Reply) → b ≡ found_reply o → is_of sort b ≡ true → o ≡ old) → ((j k : Job) (a : Reply) → ((i == job) ≡ true → j.state ≡ old) → Q j a k → Goes j a k) → Does Goes (when_meaning sort (finding s job) q (say_meaning r))
     guarded job sort old Q q r then found goes = leads_when (HasParts s) sort (On s laid i lt (Found (i == job))) (On s laid i lt Q) (λ m a w. (a ≡ r) × (w ≡ m)) (On s laid i lt Goes) (finding s job) q (say_meaning r) (finds s laid i lt job) then (leads_say (HasParts s) r)
@@ -107,7 +107,7 @@ module _ (s : Sched) (laid : IsSchedLaid s) where
     stay_goes : (p : Meaning) → Does Stays p → Does Goes p
     stay_goes p h = leads_more (HasParts s) (On s laid i lt Stays) (On s laid i lt Goes) p h (λ m w a parts e is. subst (JobGoes (job_at s m i)) (sym e) (stays (job_at s m i)))
 
-    marked_goes : (job state : ℕ) (old : Option ℕ) (j k : Job) (a : Reply) → is_settled old ≡ false → JobGoes (job_of old None) (job_of (Some state) None) → ((i == job) ≡ true → j.state ≡ old) → Marked (i == job) state j a k → Goes j a k
+    marked_goes : (job state : ℕ) (old : Option ℕ) (j k : Job) (a : Reply) → is_settled_state old ≡ false → JobGoes (job_of old None) (job_of (Some state) None) → ((i == job) ≡ true → j.state ≡ old) → Marked (i == job) state j a k → Goes j a k
     marked_goes job state old j k a unsettled step found (inl (none, e)) is = subst (JobGoes j) (sym e) (stays j)
     marked_goes job state old j k a unsettled step found (inr e) is = moved old (job_of (Some state)) (i == job) j k unsettled step found e is
 
@@ -139,7 +139,7 @@ module _ (s : Sched) (laid : IsSchedLaid s) where
     abbrev AfterIf : Bool → ℕ → ℕ → Job → Reply → Job → Type 0
     AfterIf this state v j a k = ((this ≡ true → j.state ≡ None) × (k ≡ cond this (job_of j.state (told_then v j.told)) j)) ⊎ (k ≡ cond this (job_of (Some state) (told_then v j.told)) j)
 
-    settles : (job old state v : ℕ) (end : Promise) → IsEndOf s job end → is_settled (Some old) ≡ false → JobGoes (job_of (Some old) None) (job_of (Some state) (Some v)) → Does Goes (when_meaning (Is old) (finding s job) (settling s end job state v) (say_meaning (reply.Bool false)))
+    settles : (job old state v : ℕ) (end : Promise) → IsEndOf s job end → is_settled_state (Some old) ≡ false → JobGoes (job_of (Some old) None) (job_of (Some state) (Some v)) → Does Goes (when_meaning (Is old) (finding s job) (settling s end job state v) (say_meaning (reply.Bool false)))
     settles job old state v end is unsettled step = guarded job (Is old) (Some old) (AfterIf (i == job) state v) (settling s end job state v) (reply.Bool false) both (found_number old) (λ j k a found. goes j k a (i == job) found)
       where
         goes : (j k : Job) (a : Reply) (this : Bool) → (this ≡ true → j.state ≡ Some old) → AfterIf this state v j a k → Goes j a k
@@ -168,7 +168,7 @@ module _ (s : Sched) (laid : IsSchedLaid s) where
     moves_on : (job : ℕ) → Does Goes (moving s job)
     moves_on job = stay_goes (moving s job) (leads_more (HasParts s) (λ m a w. (is_of Full a ≡ false) × On s laid i lt Stays m a w) (On s laid i lt Stays) (moving s job) (leads_wait (HasParts s) Full (On s laid i lt Stays) (queue_meaning (put_in s.ready job)) (queues s laid i lt (put_in s.ready job) laid.ends)) (λ m w a parts r. r.1))
 
-all_go : (s : Sched) (p : Meaning) → (IsSchedLaid s → (i : ℕ) → i < JOBS → Leads (HasParts s) (λ m a w. Goes (job_at s m i) a (job_at s w i)) p) → GoesSo s p
+all_go : (s : Sched) (p : Meaning) → (IsSchedLaid s → (i : ℕ) → i < JOBS → LeadsTo (HasParts s) (λ m a w. Goes (job_at s m i) a (job_at s w i)) p) → GoesSo s p
 all_go s p each n m ks a (laid, parts, are) e = (
   (laid, (each laid 0 (omega arith) n m ks a parts e).0, λ i lt. goes_is _ _ (are i lt) ((each laid i lt n m ks a parts e).1 (are i lt))),
   λ i lt. (each laid i lt n m ks a parts e).1 (are i lt),
@@ -211,7 +211,7 @@ awaiting s job end is = all_go s (awaits end) (λ laid i lt. stay_goes s laid i 
 
 -- ---- what is settled
 
-over : (j k : Job) → JobGoes j k → (is_settled j.state || is_some j.told) ≡ true → k ≡ j
+over : (j k : Job) → JobGoes j k → (is_settled_state j.state || is_some j.told) ≡ true → k ≡ j
 over j k (stays i) e = refl
 over j k comes e = absurd (cc)
 over j k starts e = absurd (cc)
@@ -222,4 +222,4 @@ pub settled : (s : Sched) (m w : ℕ → ℕ) → EachGoes s m w → EndsStay s 
 settled s m w goes job lt e = over (job_at s m job) (job_at s w job) (goes job lt) e
 
 pub two_settled : (s : Sched) (m w x : ℕ → ℕ) → EndsStay s m w → EndsStay s w x → EndsStay s m x
-two_settled s m w x first second job lt e = let same = first job lt e in second job lt (ap (λ (j : Job). is_settled j.state || is_some j.told) same ∙ e) ∙ same
+two_settled s m w x first second job lt e = let same = first job lt e in second job lt (ap (λ (j : Job). is_settled_state j.state || is_some j.told) same ∙ e) ∙ same

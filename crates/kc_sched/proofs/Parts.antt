@@ -11,7 +11,7 @@ use Rattle.kc_cells.specs.declared.promise.PromiseAct.{PromiseAct}
 use Rattle.kc_cells.specs.declared.promise.PromiseOp.{PromiseOp}
 use Rattle.kc_compose.proofs.Leads.{leads_also, leads_more}
 use Rattle.kc_compose.proofs.Stood.{OnlyWithin, leads_find, leads_promise, leads_put, leads_within}
-use Rattle.kc_compose.specs.Leads.{Leads}
+use Rattle.kc_compose.specs.Leads.{LeadsTo}
 use Rattle.kc_hash.proofs.Chained.{same_cells, shows}
 use Rattle.kc_hash.proofs.FiniteMaps.{value_at-other, value_at-with}
 use Rattle.kc_hash.specs.Content.{HashStandsFor, found_reply, hash_shown, value_at, with_pair}
@@ -66,17 +66,17 @@ module _ (s : Sched) (laid : IsSchedLaid s) where
     abbrev pub On : (Job → Reply → Job → Type 0) → (ℕ → ℕ) → Reply → (ℕ → ℕ) → Type 0
     On so m a w = so (job_at s m i) a (job_at s w i)
 
-    by_table : (R : (ℕ → ℕ) → Reply → (ℕ → ℕ) → Type 0) (so : Job → Reply → Job → Type 0) (p : Meaning) → Leads (WellFormed (HashStandsFor s.states)) (λ m a w. R m a w × OnlyWithin table (hash_cells_end s.states) m w) p → ((m w : ℕ → ℕ) (a : Reply) → R m a w → value_held (end_cell s i) w ≡ value_held (end_cell s i) m → On so m a w) → Leads (HasParts s) (On so) p
+    by_table : (R : (ℕ → ℕ) → Reply → (ℕ → ℕ) → Type 0) (so : Job → Reply → Job → Type 0) (p : Meaning) → LeadsTo (WellFormed (HashStandsFor s.states)) (λ m a w. R m a w × OnlyWithin table (hash_cells_end s.states) m w) p → ((m w : ℕ → ℕ) (a : Reply) → R m a w → value_held (end_cell s i) w ≡ value_held (end_cell s i) m → On so m a w) → LeadsTo (HasParts s) (On so) p
     by_table R so p h is = leads_more (HasParts s) (λ m a w. R m a w × OnlyWithin table (hash_cells_end s.states) m w) (On so) p
         (leads_also (WellFormed (HashStandsFor s.states)) (HasParts s) (λ m a w. R m a w × OnlyWithin table (hash_cells_end s.states) m w) p h (λ m parts. parts.0) (λ m w a parts then r. (then, λ job below. (end_stays job m w (off_ends m w r.1 job below) (parts.1 job below)).0)))
         (λ m w a parts r. is m w a r.0 (end_stays i m w (off_ends m w r.1 i lt) (parts.1 i lt)).1)
 
-    pub finds : (job : ℕ) → (let o : HashOp = record { hash = s.states; act = find job } in Leads (HasParts s) (On (Found (i == job))) (hash_meaning o))
+    pub finds : (job : ℕ) → (let o : HashOp = record { hash = s.states; act = find job } in LeadsTo (HasParts s) (On (Found (i == job))) (hash_meaning o))
     finds job = let o : HashOp = record { hash = s.states; act = find job } in by_table (λ m a w. (a ≡ found_reply (value_at (hash_shown s.states m) job)) × (hash_shown s.states w ≡ hash_shown s.states m)) (Found (i == job)) (hash_meaning o)
         (λ n m ks a there e. let one = leads_find s.states job n m ks a there e in (one.0, ((one.1.0, one.1.1), one.1.2)))
         (λ m w a r held. (λ e. let same : i ≡ job = grind (arith, nat_tests, e) in subst (λ k. a ≡ found_reply (value_at (hash_shown s.states m) k)) (sym same) r.0, ap₂ job_of (ap (λ ps. value_at ps i) r.1) held))
 
-    pub marks : (job state : ℕ) → (let o : HashOp = record { hash = s.states; act = put_state job state } in Leads (HasParts s) (On (Marked (i == job) state)) (hash_meaning o))
+    pub marks : (job state : ℕ) → (let o : HashOp = record { hash = s.states; act = put_state job state } in LeadsTo (HasParts s) (On (Marked (i == job) state)) (hash_meaning o))
     marks job state = let o : HashOp = record { hash = s.states; act = put_state job state } in by_table (λ m a w. ((value_at (hash_shown s.states m) job ≡ None) × (hash_shown s.states w ≡ hash_shown s.states m)) ⊎ (hash_shown s.states w ≡ with_pair (hash_shown s.states m) job state)) (Marked (i == job) state) (hash_meaning o) (leads_put s.states job state) so
       where
         by_test : (m w : ℕ → ℕ) (this : Bool) → (i == job) ≡ this → hash_shown s.states w ≡ with_pair (hash_shown s.states m) job state → value_held (end_cell s i) w ≡ value_held (end_cell s i) m → job_at s w i ≡ cond this (job_of (Some state) (job_at s m i).told) (job_at s m i)
@@ -91,7 +91,7 @@ module _ (s : Sched) (laid : IsSchedLaid s) where
     abbrev Tells : Promise → PromiseAct → (ℕ → ℕ) → Reply → (ℕ → ℕ) → Type 0
     Tells end act m a w = ((promise_value act (value_held end.base.0 m)).outcome ≡ replied a) × (value_held end.base.0 w ≡ (promise_value act (value_held end.base.0 m)).content) × OnlyWithin end.base.0 (end.base.0 + place_cells) m w
 
-    pub tells : (job : ℕ) (end : Promise) (act : PromiseAct) → IsEndOf s job end → (let o : PromiseOp = record { promise = end; act = act } in Leads (HasParts s) (On (Told (i == job) act)) (promise_meaning o))
+    pub tells : (job : ℕ) (end : Promise) (act : PromiseAct) → IsEndOf s job end → (let o : PromiseOp = record { promise = end; act = act } in LeadsTo (HasParts s) (On (Told (i == job) act)) (promise_meaning o))
     tells job end act is = let o : PromiseOp = record { promise = end; act = act } in leads_more (HasParts s) (Tells end act) (On (Told (i == job) act)) (promise_meaning o)
         (leads_also (WellFormed (PlaceHolds end.base.0)) (HasParts s) (Tells end act) (promise_meaning o) (leads_promise end act) (λ m parts. subst (λ b. WellFormed (PlaceHolds b) m) (sym is.1) (parts.1 job is.0)) keeps)
         (λ m w a parts r. by_test m w (i == job) refl parts r.1 r.2)
@@ -116,7 +116,7 @@ module _ (s : Sched) (laid : IsSchedLaid s) where
             ap₂ job_of (ap (λ ps. value_at ps i) (table_stays m w (off_table m w out) parts.0).1) (subst (λ b. value_held b w ≡ (promise_value act (value_held b m)).content) at held)
         by_test m w false e parts held out = ap₂ job_of (ap (λ ps. value_at ps i) (table_stays m w (off_table m w out) parts.0).1) (end_stays i m w (off_end m w out i (eqb-false _ _ e)) (parts.1 i lt)).1
 
-    pub queues : (o : QueueOp) → queue_cells_end o.queue ≤ s.ends.base.0 → Leads (HasParts s) (On Stays) (queue_meaning o)
+    pub queues : (o : QueueOp) → queue_cells_end o.queue ≤ s.ends.base.0 → LeadsTo (HasParts s) (On Stays) (queue_meaning o)
     queues o before = leads_more (HasParts s) (λ m a w. OnlyWithin o.queue.base.0 (queue_cells_end o.queue) m w) (On Stays) (queue_meaning o) (leads_within o.queue.base.0 (queue_cells_end o.queue) (HasParts s) (queue_program o.queue o.act replies) (queue_stays o) keeps)
         (λ m w a parts out. ap₂ job_of (ap (λ ps. value_at ps i) (table_stays m w (off_table m w out) parts.0).1) (end_stays i m w (off_end m w out i) (parts.1 i lt)).1)
       where

@@ -2,7 +2,7 @@
 use Rattle.std.specs.Prelude.{◌≡◌, ℕ, ◌==◌, ◌+◌, ◌*◌, ◌<◌, ◌≤◌, Bool, true, false, ◌||◌, List, Option, Some, None, length, get_or}
 use Rattle.std.specs.Option.{is_some}
 use Rattle.kc_cells.specs.OnePlace.{PlaceHolds, value_held}
-use Rattle.kc_compose.specs.Leads.{Leads}
+use Rattle.kc_compose.specs.Leads.{LeadsTo}
 use Rattle.kc_hash.specs.Content.{HashStandsFor, hash_shown, value_at}
 use Rattle.kc_hash.specs.Meaning.{hash_cells_end}
 use Rattle.kc_jobs.specs.declared.jobs.TheConstants.{CANCELLED, DONE, RUNNING, WAITING}
@@ -76,17 +76,17 @@ EachGoes s m w = (job : ℕ) → job < JOBS → JobGoes (job_at s m job) (job_at
 
 -- what a thread may commit: wherever the cells stand for jobs, it takes each on by one step at most
 abbrev pub GoesSo : Sched → Meaning → Type 0
-GoesSo s p = Leads (HasJobs s) (λ m a w. EachGoes s m w) p
+GoesSo s p = LeadsTo (HasJobs s) (λ m a w. EachGoes s m w) p
 
 -- ---- the history that is left
 
-abbrev pub is_settled : Option ℕ → Bool
-is_settled (Some state) = state == CANCELLED || state == DONE
-is_settled None = false
+abbrev pub is_settled_state : Option ℕ → Bool
+is_settled_state (Some state) = state == CANCELLED || state == DONE
+is_settled_state None = false
 
 -- a job that was cancelled, or is done, or whose end was told, stays just so
 abbrev pub EndsStay : Sched → (ℕ → ℕ) → (ℕ → ℕ) → Type 0
-EndsStay s m w = (job : ℕ) → job < JOBS → (is_settled (job_at s m job).state || is_some (job_at s m job).told) ≡ true → job_at s w job ≡ job_at s m job
+EndsStay s m w = (job : ℕ) → job < JOBS → (is_settled_state (job_at s m job).state || is_some (job_at s m job).told) ≡ true → job_at s w job ≡ job_at s m job
 
 -- From these values on, each entry of the one history takes each job on by one step at most: it comes, starts, is cancelled or ends.
 -- And from each place to each later one, a job that was cancelled stays cancelled, so none is started any more; and what an end was told it stays.
