@@ -6,3 +6,5 @@ pub mod Locations
 pub mod Places
 pub mod Tables
 pub mod Lines
+pub mod Leads
+pub mod Stood

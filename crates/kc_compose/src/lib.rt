@@ -4,7 +4,10 @@
 
 mod both;
 mod fed;
+mod found;
 mod give;
+mod laws;
+mod moving;
 mod one_of;
 mod say;
 mod sort;
@@ -18,7 +21,10 @@ mod when;
 
 pub use both::Both;
 pub use fed::{Fed, Feed};
+pub use found::when_found;
 pub use give::Give;
+pub use laws::a_refusal_puts_nothing;
+pub use moving::{IntoQueue, move_item};
 pub use one_of::OneOf;
 pub use say::Say;
 pub use sort::Sort;

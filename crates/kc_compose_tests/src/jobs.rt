@@ -115,6 +115,12 @@ fn a_job_that_waits_is_cancelled_and_no_other(rt: HostRuntime) -> Result<(), Fai
         &cancel_job(y.states, y.end, 1),
         Reply::Bool(false),
     );
+    replies(
+        &rt,
+        &mut store,
+        &submit_job(y.states, y.line, 1),
+        Reply::Bool(false),
+    );
     Ok(())
 }
 
@@ -168,12 +174,16 @@ fn who_awaits_the_end_of_a_job_has_its_result(rt: HostRuntime) -> Result<(), Fai
         act: PromiseAct::Await,
     };
     waits(&rt, &mut store, &end);
+    let finish = end_job(y.states, y.end, 7, 49);
+    replies(&rt, &mut store, &finish, Reply::Bool(false));
     replies(
         &rt,
         &mut store,
-        &end_job(y.states, y.end, 7, 49),
+        &at(y.states, HashAct::Put(7, RUNNING)),
         Reply::Unit,
     );
+    replies(&rt, &mut store, &finish, Reply::Unit);
+    replies(&rt, &mut store, &finish, Reply::Bool(false));
     replies(&rt, &mut store, &end, Reply::Value(49));
     replies(
         &rt,

@@ -2,12 +2,9 @@
 //! cancels, a clock lets jobs run, and workers start and end them.
 #![tactic(auto)]
 
-mod client;
-mod clock;
-mod state;
-mod worker;
+mod jobs;
 
-pub use client::{cancel_job, submit_job};
-pub use clock::{IntoLine, release_job};
-pub use state::{CANCELLED, DONE, RUNNING, WAITING};
-pub use worker::{Begin, end_job, start_job};
+pub use jobs::{
+    Begin, CANCELLED, DONE, RUNNING, WAITING, cancel_job, end_job, release_job, start_job,
+    submit_job,
+};

@@ -3,3 +3,5 @@ pub mod Steps
 pub mod Together
 pub mod Told
 pub mod Seeing
+pub mod Serving
+pub mod Lasting

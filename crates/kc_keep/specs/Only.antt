@@ -1,10 +1,13 @@
 -- Entries of some meanings alone, and callers that commit no others.
-use Rattle.std.specs.Prelude.{◌≡◌, ℕ, ◌⊎◌, All, List, [], ◌++◌}
+use Rattle.std.specs.Prelude.{◌≡◌, ℕ, suc, ◌⊎◌, All, List, [], ◌∷◌, ◌++◌, Option, Some, None}
 use Rattle.kc_model.specs.declared.footprint.Entry.{Entry}
 use Rattle.kc_model.specs.declared.footprint.Footprint.{Footprint}
 use Rattle.kc_model.specs.declared.reply.Answer.TheVariants as answer
 use Rattle.kc_model.specs.declared.reply.Reply.{Reply}
-use Rattle.kc_store.specs.Views.{CallerView}
+use Rattle.kc_store.specs.Knows.{Remembers}
+use Rattle.kc_store.specs.Views.{CallerView, StoreView, opened_caller}
+use Rattle.kc_store.specs.declared.values.Outcome.{Outcome}
+use Rattle.kc_store.specs.declared.values.Outcome.TheVariants as outcome
 use Rattle.kc_xt.specs.Commit.{Answers}
 use Rattle.kc_xt.specs.Meaning.{Meaning, limited}
 
@@ -40,3 +43,18 @@ pub record CommitsOnly (is_one : Meaning → Type 0) (c d : CallerView) : Type 0
   pub added : List Entry
   pub own : d.own ≡ c.own ++ added
   pub only : OfMeanings is_one added
+
+-- a thread's caller, which committed these alone
+pub record Serves (is_one : Meaning → Type 0) (c d : CallerView) : Type 0 where
+  pub remembers : Remembers c d
+  pub only : CommitsOnly is_one c d
+
+-- the callers from number k on came to these, each of which served, up to the store's last
+abbrev pub ServeFrom : (Meaning → Type 0) → StoreView → ℕ → List CallerView → Type 0
+ServeFrom is_one z k [] = z.callers ≡ k
+ServeFrom is_one z k (d ∷ ds) = Serves is_one (opened_caller z k) d × ServeFrom is_one z (suc k) ds
+
+-- the reply of a commit that is done
+abbrev pub reply_in : Outcome → Option Reply
+reply_in (outcome.Done a f) = Some a
+reply_in o = None

@@ -3,7 +3,8 @@
 //!
 //! A user names an `Invariant`: what holds of the values, and which meanings are committed, each of which keeps it. A thread's
 //! contract says `CommitsOnly` of all that it has committed, which `told_of`, `waited_of` and `viewed_of` give for each call and
-//! `commits_add_up` puts together. When all callers came back, `finish_kept` says that the invariant holds throughout.
+//! `commits_add_up` puts together; or `Serves`, which `commit_kept` gives and `serving_adds_up` puts together. When all callers came
+//! back, `finish_kept` says that the invariant holds throughout.
 #![tactic(auto)]
 
 mod finishing;
@@ -14,4 +15,4 @@ mod telling;
 pub use finishing::{finish_kept, finish_stepped};
 pub use invariant::{Invariant, Stepping};
 pub use laws::{holds_throughout, steps_throughout, views_see_it_hold};
-pub use telling::{commits_add_up, told_of, viewed_of, waited_of};
+pub use telling::{commit_kept, commits_add_up, serving_adds_up, told_of, viewed_of, waited_of};

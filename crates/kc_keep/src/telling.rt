@@ -1,10 +1,11 @@
 //! From the answers of calls to what a thread may say of its own entries. The laws do nothing: the contract is the law.
 
-ghost use Rattle.std.specs.Prelude.{ℕ};
+ghost use Rattle.std.specs.Prelude.{◌≡◌, ◌≤◌, ℕ, All, List};
 ghost use Rattle.kc_await.specs.Adds.{IsToldAtLast, WaitsSo};
 ghost use Rattle.kc_await.specs.Viewing.{IsViewedAtLast};
-ghost use Rattle.kc_keep.specs.Only.{CommitsOnly, HasOnly};
+ghost use Rattle.kc_keep.specs.Only.{CommitsOnly, HasOnly, ServeFrom, Serves, reply_in};
 ghost use Rattle.kc_model.specs.declared.footprint.Footprint.{Footprint};
+ghost use Rattle.kc_store.specs.Backs.{AreAllCallers};
 ghost use Rattle.kc_store.specs.Knows.{CommitsSo, IsTold, OnlyLearns, TriesSo};
 ghost use Rattle.kc_store.specs.Viewing.{IsViewed};
 ghost use Rattle.kc_store.specs.Views.{CallerView, StoreView, opened_caller};
@@ -16,6 +17,11 @@ ghost use Rattle.kc_store.specs.declared.viewing.Viewed.{Viewed};
 ghost use Rattle.kc_xt.specs.Meaning.{Meaning, limited};
 
 use crate::invariant::Invariant;
+use kc_await::commit_waiting;
+use kc_model::Reply;
+use kc_store::{Caller, Outcome, Store, what_is_known_stays_known};
+use kc_xt::Transact;
+use std::sync::Wait;
 
 /// A commit or a try of one of the meanings, however it was answered, adds entries of these meanings alone: one, or none.
 pub fn told_of<I: Invariant>(invariant: &I)
@@ -45,3 +51,48 @@ pub fn commits_add_up<I: Invariant>(invariant: &I)
     ensures has { (c d : CallerView) → HasOnly (I.is_one invariant.now) c → CommitsOnly (I.is_one invariant.now) c d → HasOnly (I.is_one invariant.now) d }
     ensures opened { (z : StoreView) (k : ℕ) (d : CallerView) → CommitsOnly (I.is_one invariant.now) (opened_caller z k) d → HasOnly (I.is_one invariant.now) d }
 {}
+
+/// Who serves by one call and by the next serves by both; and where all callers of a store served, these are all of its callers,
+/// whose entries are of the invariant's meanings alone.
+pub fn serving_adds_up<I: Invariant>(invariant: &I)
+    ensures same { (c : CallerView) → Serves (I.is_one invariant.now) c c }
+    ensures then { (c d e : CallerView) → Serves (I.is_one invariant.now) c d → Serves (I.is_one invariant.now) d e → Serves (I.is_one invariant.now) c e }
+    ensures all { (z : StoreView) (callers : List CallerView) → ServeFrom (I.is_one invariant.now) z 0 callers → AreAllCallers z callers }
+    ensures only { (z : StoreView) (callers : List CallerView) → ServeFrom (I.is_one invariant.now) z 0 callers → All (HasOnly (I.is_one invariant.now)) callers }
+{
+    what_is_known_stays_known();
+    commits_add_up(invariant);
+}
+
+/// Commits one of the invariant's meanings, where it would wait as soon as it needn't: its reply, or None where it is too large or
+/// worn.
+pub fn commit_kept<R: Wait, I: Invariant, T: Transact>(
+    rt: &R,
+    store: &Store,
+    caller: &mut Caller,
+    invariant: &I,
+    act: &T,
+) -> Option<Reply>
+    requires caller { caller.old.of ≡ store.now }
+    requires fit { T.is_fit act.now }
+    requires within { T.end act.now ≤ store.now.locations }
+    requires one { I.is_one invariant.now (T.meaning act.now) }
+    ensures serves { Serves (I.is_one invariant.now) caller.old caller.new }
+    ensures so { (o : Outcome) × WaitsSo (limited (T.most act.now) (T.meaning act.now)) (T.end act.now) o caller.old caller.new × (result ≡ reply_in o) }
+{
+    waited_of(invariant);
+    let outcome = commit_waiting(rt, store, caller, act);
+    reply_of(outcome)
+}
+
+fn reply_of(outcome: Outcome) -> Option<Reply>
+    ensures { result ≡ reply_in outcome }
+{
+    match outcome {
+        Outcome::Done {
+            reply,
+            footprint: _,
+        } => Some(reply),
+        _ => None,
+    }
+}

@@ -4,10 +4,11 @@
 mod kitchen;
 mod serving;
 
-use kitchen::Kitchen;
+use kitchen::lay_kitchen;
 use serving::serve;
 use std::io;
 
 fn main(rt: HostRuntime) -> io::Result<()> {
-    serve(&rt, rt.alloc(), &Kitchen::new())
+    let (kitchen, layout) = lay_kitchen(rt.alloc())?;
+    serve(&rt, rt.alloc(), &kitchen, &layout)
 }

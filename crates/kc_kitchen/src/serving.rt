@@ -1,14 +1,15 @@
 //! A cook and a waiter on the kitchen's store, each by a thread.
 
-ghost use Rattle.std.specs.Prelude.{◌≡◌, ◌≤◌, IfSome};
-ghost use Rattle.kc_kitchen.specs.Kitchen.{HasKitchen, IsKitchen};
+ghost use Rattle.std.specs.Prelude.{◌≡◌, ◌≤◌, IfSome, length};
+ghost use Rattle.kc_kitchen.specs.Kitchen.{HasKitchen};
 ghost use Rattle.kc_kitchen.specs.Serving.{Replied};
 ghost use Rattle.kc_store.specs.Knows.{Remembers};
 ghost use Rattle.kc_xt.specs.Meaning.{limited};
 
-use crate::kitchen::{CookNext, Kitchen};
+use crate::kitchen::{Kitchen, cook_next};
 use kc_await::commit_waiting;
 use kc_cells::{MvarAct, MvarOp};
+use kc_lay::Layout;
 use kc_model::Reply;
 use kc_queue::{QueueAct, QueueOp};
 use kc_store::{Caller, Outcome, Store, what_is_known_stays_known};
@@ -27,10 +28,16 @@ pub fn serve<R: Print + Threads + Wait + Sync>(
     rt: &R,
     alloc: Global,
     kitchen: &Kitchen,
+    layout: &Layout,
 ) -> io::Result<()>
-    requires { IsKitchen kitchen.now }
+    requires { HasKitchen kitchen.now (length layout.now) }
 {
-    let (store, cook, waiter) = kitchen.open(alloc)?;
+    let Ok((store, mut callers)) = Store::open(alloc, layout.values(), 2) else {
+        return Err(io::ErrorKind::OutOfMemory.into());
+    };
+    let (Some(waiter), Some(cook)) = (callers.pop(), callers.pop()) else {
+        unreachable!("a store has as many callers as it was opened for");
+    };
     let shared = &store;
     let (_cook, (_waiter, served)) = thread::join(
         rt,
@@ -48,7 +55,7 @@ fn cook_all<R: Wait>(rt: &R, store: &Store, mut cook: Caller, kitchen: &Kitchen)
 {
     what_is_known_stays_known();
     for _ in 0..ORDERS {
-        commit(rt, store, &mut cook, &CookNext::new(kitchen));
+        commit(rt, store, &mut cook, &cook_next(kitchen));
     }
     cook
 }

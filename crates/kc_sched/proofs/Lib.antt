@@ -1,6 +1,3 @@
-pub mod Leads
-pub mod Steps
-pub mod Settled
+pub mod Parts
+pub mod Acts
 pub mod Opened
-pub mod Finished
-pub mod Laid

@@ -1,11 +1,38 @@
 -- What becomes of jobs.
-use Rattle.std.specs.Prelude.{◌≡◌, ℕ, ◌<◌, List, Option, Some, None}
+use Rattle.std.specs.Prelude.{◌≡◌, ℕ, ◌==◌, ◌+◌, ◌*◌, ◌<◌, ◌≤◌, Bool, true, false, ◌||◌, List, Option, Some, None, length, get_or}
+use Rattle.std.specs.Option.{is_some}
 use Rattle.kc_cells.specs.OnePlace.{PlaceHolds, value_held}
+use Rattle.kc_compose.specs.Leads.{LeadsTo}
 use Rattle.kc_hash.specs.Content.{HashStandsFor, hash_shown, value_at}
-use Rattle.kc_jobs.specs.declared.state.TheConstants.{CANCELLED, DONE, RUNNING, WAITING}
-use Rattle.kc_sched.specs.Sched.{IsSchedLaid, end_cell}
+use Rattle.kc_hash.specs.Meaning.{hash_cells_end}
+use Rattle.kc_jobs.specs.declared.jobs.TheConstants.{CANCELLED, DONE, RUNNING, WAITING}
+use Rattle.kc_keep.specs.Steps.{LastsThroughout, StepsThroughout}
+use Rattle.kc_model.specs.Legal.{IsLegal}
+use Rattle.kc_model.specs.Store.{Store}
+use Rattle.kc_queue.specs.Meaning.{queue_cells_end}
 use Rattle.kc_sched.specs.declared.sched.Sched.{Sched}
 use Rattle.kc_sched.specs.declared.sched.TheConstants.{JOBS}
+use Rattle.kc_store.specs.Views.{PastView, last}
+use Rattle.kc_xt.specs.Meaning.{Meaning}
+use Rattle.kc_xt.specs.Structure.{WellFormed}
+
+-- ---- where the parts lie
+
+abbrev pub end_cell : Sched → ℕ → ℕ
+end_cell s job = s.ends.base.0 + 2 * job
+
+-- one behind another, with an end for each job
+pub record IsSchedLaid (s : Sched) : Type 0 where
+  pub ready : queue_cells_end s.line ≤ s.ready.base.0
+  pub ends : queue_cells_end s.ready ≤ s.ends.base.0
+  pub many : s.ends.cells ≡ 2 * JOBS
+  pub states : s.ends.base.0 + 2 * JOBS ≤ s.states.base.0
+
+-- a store of so many locations has the scheduler
+abbrev pub HasSched : Sched → ℕ → Type 0
+HasSched s size = IsSchedLaid s × (hash_cells_end s.states ≤ size)
+
+-- ---- jobs
 
 -- what the table says of a job, and what its end was told
 pub record Job : Type 0 where
@@ -31,36 +58,41 @@ pub data JobGoes : Job → Job → Type 0 where
   is_cancelled : JobGoes (job_of (Some WAITING) None) (job_of (Some CANCELLED) (Some 0))
   ends : (v : ℕ) → JobGoes (job_of (Some RUNNING) None) (job_of (Some DONE) (Some v))
 
--- the table of states, and what each end was told
-pub record Jobs : Type 0 where
-  pub states : List (ℕ × ℕ)
-  pub told : ℕ → Option ℕ
-
-abbrev pub job_in : Jobs → ℕ → Job
-job_in x job = job_of (value_at x.states job) (x.told job)
-
--- the cells stand for that
-pub record ShowsJobs (s : Sched) (m : ℕ → ℕ) (x : Jobs) : Type 0 where
-  pub states : HashStandsFor s.states m x.states
-  pub told : (job : ℕ) → job < JOBS → PlaceHolds (end_cell s job) m (x.told job)
-
-abbrev pub AreJobs : Jobs → Type 0
-AreJobs x = (job : ℕ) → job < JOBS → IsJob (job_in x job)
-
 -- what the cells show of a job, whatever they hold
 abbrev pub job_at : Sched → (ℕ → ℕ) → ℕ → Job
 job_at s m job = job_of (value_at (hash_shown s.states m) job) (value_held (end_cell s job) m)
 
--- the cells stand for jobs
+-- the cells are a table's and promises'
+abbrev pub HasParts : Sched → (ℕ → ℕ) → Type 0
+HasParts s m = WellFormed (HashStandsFor s.states) m × ((job : ℕ) → job < JOBS → WellFormed (PlaceHolds (end_cell s job)) m)
+
+-- and stand for jobs
 abbrev pub HasJobs : Sched → (ℕ → ℕ) → Type 0
-HasJobs s m = IsSchedLaid s × (x : Jobs) × ShowsJobs s m x × AreJobs x
+HasJobs s m = IsSchedLaid s × HasParts s m × ((job : ℕ) → job < JOBS → IsJob (job_at s m job))
 
 -- each job goes on by one step at most
 abbrev pub EachGoes : Sched → (ℕ → ℕ) → (ℕ → ℕ) → Type 0
 EachGoes s m w = (job : ℕ) → job < JOBS → JobGoes (job_at s m job) (job_at s w job)
 
--- a job that was cancelled or is done stays so, and its end stays told
-pub record EndsStay (s : Sched) (m w : ℕ → ℕ) : Type 0 where
-  pub cancelled : (job : ℕ) → job < JOBS → (job_at s m job).state ≡ Some CANCELLED → (job_at s w job).state ≡ Some CANCELLED
-  pub done : (job : ℕ) → job < JOBS → (job_at s m job).state ≡ Some DONE → (job_at s w job).state ≡ Some DONE
-  pub told : (job v : ℕ) → job < JOBS → (job_at s m job).told ≡ Some v → (job_at s w job).told ≡ Some v
+-- what a thread may commit: wherever the cells stand for jobs, it takes each on by one step at most
+abbrev pub GoesSo : Sched → Meaning → Type 0
+GoesSo s p = LeadsTo (HasJobs s) (λ m a w. EachGoes s m w) p
+
+-- ---- the history that is left
+
+abbrev pub is_settled_state : Option ℕ → Bool
+is_settled_state (Some state) = state == CANCELLED || state == DONE
+is_settled_state None = false
+
+-- a job that was cancelled, or is done, or whose end was told, stays just so
+abbrev pub EndsStay : Sched → (ℕ → ℕ) → (ℕ → ℕ) → Type 0
+EndsStay s m w = (job : ℕ) → job < JOBS → (is_settled_state (job_at s m job).state || is_some (job_at s m job).told) ≡ true → job_at s w job ≡ job_at s m job
+
+-- From these values on, each entry of the one history takes each job on by one step at most: it comes, starts, is cancelled or ends.
+-- And from each place to each later one, a job that was cancelled stays cancelled, so none is started any more; and what an end was told it stays.
+pub record IsScheduled (s : Sched) (values : List ℕ) (p : PastView) : Type 0 where
+  pub opening : Store
+  pub opens : (l : ℕ) → l < length values → (opening l).value ≡ get_or values l 0
+  pub legal : IsLegal opening p.history (last p)
+  pub goes : StepsThroughout (EachGoes s) opening p.history
+  pub stay : LastsThroughout (EndsStay s) opening p.history

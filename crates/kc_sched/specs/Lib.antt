@@ -1,4 +1,1 @@
-pub mod Sched
 pub mod Jobs
-pub mod Acts
-pub mod Serving

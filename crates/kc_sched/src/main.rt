@@ -2,9 +2,6 @@
 //! once.
 #![tactic(auto)]
 
-mod acting;
-mod acts;
-mod rule;
 mod running;
 mod sched;
 mod threads;

@@ -1,40 +1,33 @@
 //! What the threads do: a client, a clock and two workers.
 
 ghost use Rattle.std.specs.Prelude.{◌≡◌, ◌<◌};
-ghost use Rattle.kc_sched.specs.Serving.{HasSched, Serves};
+ghost use Rattle.kc_keep.specs.Only.{Serves};
+ghost use Rattle.kc_sched.specs.Jobs.{GoesSo, HasSched};
 
-use crate::acting::{commit, serves_on};
-use crate::acts::{end_running_job, enter_job};
 use crate::sched::{JOBS, Sched};
 use kc_cells::{PromiseAct, PromiseOp};
-use kc_jobs::{cancel_job, release_job, start_job};
+use kc_jobs::{cancel_job, end_job, release_job, start_job, submit_job};
+use kc_keep::{commit_kept, serving_adds_up};
 use kc_model::Reply;
 use kc_store::{Caller, Store};
 use std::sync::Wait;
 
-/// What a thread counted.
+/// What a thread counted: jobs that it submitted, those that it cancelled or ended, ends that it was told, and the sum of the
+/// results that it was told, and of those that a cancelled job would have had.
 #[derive(Clone, Copy)]
 pub struct Tally {
-    /// Jobs that it submitted.
     pub submitted: u32,
-    /// Jobs that it cancelled, or ended.
     pub settled: u32,
-    /// Ends that it was told.
     pub told: u32,
-    /// The sum of the results that it was told, and of those that a cancelled job would have had.
     pub results: u32,
 }
 
-impl Tally {
-    fn new() -> Tally {
-        Tally {
-            submitted: 0,
-            settled: 0,
-            told: 0,
-            results: 0,
-        }
-    }
-}
+const NONE: Tally = Tally {
+    submitted: 0,
+    settled: 0,
+    told: 0,
+    results: 0,
+};
 
 // A job's result, which isn't 0.
 fn result_of(job: u32) -> u32 {
@@ -45,10 +38,10 @@ fn result_of(job: u32) -> u32 {
 pub fn ask<R: Wait>(rt: &R, store: &Store, mut client: Caller, sched: &Sched) -> (Caller, Tally)
     requires client { client.of ≡ store.now }
     requires sched { HasSched sched.now store.now.locations }
-    ensures { Serves sched.now client result.0 }
+    ensures { Serves (GoesSo sched.now) client result.0 }
 {
-    serves_on(sched);
-    let mut tally = Tally::new();
+    serving_adds_up(sched);
+    let mut tally = NONE;
     for job in 0..JOBS {
         submit(rt, store, &mut client, sched, job, &mut tally);
     }
@@ -57,7 +50,7 @@ pub fn ask<R: Wait>(rt: &R, store: &Store, mut client: Caller, sched: &Sched) ->
             promise: sched.end_of(job),
             act: PromiseAct::Await,
         };
-        if let Some(Reply::Value(result)) = commit(rt, store, &mut client, sched, &end) {
+        if let Some(Reply::Value(result)) = commit_kept(rt, store, &mut client, sched, &end) {
             let full = if result == 0 { result_of(job) } else { result };
             tally.told = tally.told.wrapping_add(1);
             tally.results = tally.results.wrapping_add(full);
@@ -77,15 +70,16 @@ fn submit<R: Wait>(
     requires client { client.old.of ≡ store.now }
     requires sched { HasSched sched.now store.now.locations }
     requires job { job < JOBS }
-    ensures { Serves sched.now client.old client.new }
+    ensures { Serves (GoesSo sched.now) client.old client.new }
 {
-    serves_on(sched);
-    if commit(rt, store, client, sched, &enter_job(sched, job)) == Some(Reply::Unit) {
+    serving_adds_up(sched);
+    let enter = submit_job(sched.states, sched.line, job);
+    if commit_kept(rt, store, client, sched, &enter) == Some(Reply::Unit) {
         tally.submitted = tally.submitted.wrapping_add(1);
     }
     if job % 2 == 1 {
         let cancel = cancel_job(sched.states, sched.end_of(job), job);
-        if commit(rt, store, client, sched, &cancel) == Some(Reply::Unit) {
+        if commit_kept(rt, store, client, sched, &cancel) == Some(Reply::Unit) {
             tally.settled = tally.settled.wrapping_add(1);
         }
     }
@@ -95,17 +89,12 @@ fn submit<R: Wait>(
 pub fn tick<R: Wait>(rt: &R, store: &Store, mut clock: Caller, sched: &Sched) -> Caller
     requires clock { clock.of ≡ store.now }
     requires sched { HasSched sched.now store.now.locations }
-    ensures { Serves sched.now clock result }
+    ensures { Serves (GoesSo sched.now) clock result }
 {
-    serves_on(sched);
+    serving_adds_up(sched);
+    let release = release_job(sched.line, sched.ready);
     for _ in 0..JOBS {
-        commit(
-            rt,
-            store,
-            &mut clock,
-            sched,
-            &release_job(sched.line, sched.ready),
-        );
+        commit_kept(rt, store, &mut clock, sched, &release);
     }
     clock
 }
@@ -114,10 +103,10 @@ pub fn tick<R: Wait>(rt: &R, store: &Store, mut clock: Caller, sched: &Sched) ->
 pub fn work<R: Wait>(rt: &R, store: &Store, mut worker: Caller, sched: &Sched) -> (Caller, Tally)
     requires worker { worker.of ≡ store.now }
     requires sched { HasSched sched.now store.now.locations }
-    ensures { Serves sched.now worker result.0 }
+    ensures { Serves (GoesSo sched.now) worker result.0 }
 {
-    serves_on(sched);
-    let mut tally = Tally::new();
+    serving_adds_up(sched);
+    let mut tally = NONE;
     for _ in 0..JOBS / 2 {
         one_job(rt, store, &mut worker, sched, &mut tally);
     }
@@ -127,14 +116,14 @@ pub fn work<R: Wait>(rt: &R, store: &Store, mut worker: Caller, sched: &Sched) -
 fn one_job<R: Wait>(rt: &R, store: &Store, worker: &mut Caller, sched: &Sched, tally: &mut Tally)
     requires worker { worker.old.of ≡ store.now }
     requires sched { HasSched sched.now store.now.locations }
-    ensures { Serves sched.now worker.old worker.new }
+    ensures { Serves (GoesSo sched.now) worker.old worker.new }
 {
-    serves_on(sched);
+    serving_adds_up(sched);
     let start = start_job(sched.ready, sched.states);
-    if let Some(Reply::Value(job)) = commit(rt, store, worker, sched, &start) {
+    if let Some(Reply::Value(job)) = commit_kept(rt, store, worker, sched, &start) {
         if job < JOBS {
-            let end = end_running_job(sched, sched.end_of(job), job, result_of(job));
-            if commit(rt, store, worker, sched, &end) == Some(Reply::Unit) {
+            let end = end_job(sched.states, sched.end_of(job), job, result_of(job));
+            if commit_kept(rt, store, worker, sched, &end) == Some(Reply::Unit) {
                 tally.settled = tally.settled.wrapping_add(1);
             }
         }

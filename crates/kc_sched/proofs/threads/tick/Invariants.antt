@@ -1,5 +1,6 @@
-use Rattle.kc_sched.specs.Serving.{Serves}
+use Rattle.kc_keep.specs.Only.{Serves}
+use Rattle.kc_sched.specs.Jobs.{GoesSo}
 use Rattle.kc_sched.proofs.threads.tick.Given as goal
 
 abbrev pub invariant-loop : goal.invariant-loop
-invariant-loop g l = Serves l.sched l.fn.clock l.clock
+invariant-loop g l = Serves (GoesSo l.sched) l.fn.clock l.clock
