@@ -4,7 +4,7 @@ use Rattle.std.specs.Prelude.{Result, ◌==◌, nat_lt}
 use Rattle.std.proofs.lemmas.Bool.Decides.{nat_tests}
 use Rattle.kc_model.specs.declared.plain_store.TheConstants.{MOST_LOCATIONS}
 use Rattle.kc_model.specs.declared.reply.Reply.{Reply}
-use Rattle.kc_shelf.specs.Meaning.{IsFit, IsFitAct, IsSlot, IsTicket, act_end, begin_life, count_at, first_free, head_at, last_life, life_at, life_of, next_at, shelf_cells_end, shelf_end, shelf_meaning, shelf_program, slot_of}
+use Rattle.kc_shelf.specs.Meaning.{IsFitShelfOp, IsFitShelfAct, IsSlot, IsTicket, act_end, begin_life, count_at, first_free, head_at, last_life, life_at, life_of, next_at, shelf_cells_end, shelf_end, shelf_meaning, shelf_program, slot_of}
 use Rattle.kc_shelf.specs.declared.operation.ShelfAct.{ShelfAct}
 use Rattle.kc_shelf.specs.declared.operation.ShelfAct.TheVariants as act
 use Rattle.kc_shelf.specs.declared.operation.ShelfOp.{ShelfOp}
@@ -63,7 +63,7 @@ module _ (t : Shelf) where
   begins : (n l : ℕ) → IsSlot t n → Stays 0 (shelf_cells_end t) (begin_life t n l replies)
   begins n l s = (omega arith, life_hi n s, (omega arith, count_hi n s, tt))
 
-  act_stays : (a : ShelfAct) → IsFitAct t a → Stays 0 (act_end t a) (shelf_program t a replies)
+  act_stays : (a : ShelfAct) → IsFitShelfAct t a → Stays 0 (act_end t a) (shelf_program t a replies)
   act_stays act.Reserve fit = (
     omega arith,
     head_hi,
@@ -135,5 +135,5 @@ act_first t (act.Drop v) = tt
 act_first t (act.Free v) = tt
 
 -- what does its program obeys the law
-pub shelf_law : {P : Type 0} (gives : Gives P) (o : ShelfOp) {x y : Log P} (r : Result Reply Stop) → IsFit o → Does gives (shelf_program o.shelf o.act) x r y → Obeys gives (shelf_meaning o) (shelf_end o) x r y
+pub shelf_law : {P : Type 0} (gives : Gives P) (o : ShelfOp) {x y : Log P} (r : Result Reply Stop) → IsFitShelfOp o → Does gives (shelf_program o.shelf o.act) x r y → Obeys gives (shelf_meaning o) (shelf_end o) x r y
 shelf_law gives o r fit d = stays_law _ _ gives (shelf_program o.shelf o.act) (act_stays o.shelf o.act fit) (act_first o.shelf o.act) r d

@@ -68,14 +68,14 @@ reserve_program t k =
     (read (next_at t (first_free t h)) (λ x. read (life_at t (first_free t h)) (λ l. read (count_at t (first_free t h)) (λ c.
     cond (c == 0) (cond (nat_lt l (last_life t)) (write (head_at t) x (begin_life t (first_free t h) l k)) (k reply.Full)) (k reply.Full))))))
 
-abbrev pub renew_program : Shelf → (ticket : ℕ) → (Reply → Program) → Program
-renew_program t v k =
+abbrev pub shelf_renew_program : Shelf → (ticket : ℕ) → (Reply → Program) → Program
+shelf_renew_program t v k =
     read (life_at t (slot_of t v)) (λ l. cond (l == life_of t v)
     (read (count_at t (slot_of t v)) (λ c. cond (c == 0) (cond (nat_lt l (last_life t)) (begin_life t (slot_of t v) l k) (k reply.Full)) (k (reply.Bool false))))
     (k (reply.Bool false)))
 
-abbrev pub name_program : Shelf → (ticket : ℕ) → (Reply → Program) → Program
-name_program t v k =
+abbrev pub shelf_name_program : Shelf → (ticket : ℕ) → (Reply → Program) → Program
+shelf_name_program t v k =
     read (life_at t (slot_of t v)) (λ l. cond (l == life_of t v)
     (read (count_at t (slot_of t v)) (λ c. cond (c == 0) (k (reply.Bool false)) (cond (c == MOST_NAMES) (k reply.Full) (write (count_at t (slot_of t v)) (c + 1) (k reply.Unit)))))
     (k (reply.Bool false)))
@@ -101,8 +101,8 @@ free_program t v k =
 
 abbrev pub shelf_program : Shelf → ShelfAct → (Reply → Program) → Program
 shelf_program t act.Reserve k = reserve_program t k
-shelf_program t (act.Renew v) k = renew_program t v k
-shelf_program t (act.Name v) k = name_program t v k
+shelf_program t (act.Renew v) k = shelf_renew_program t v k
+shelf_program t (act.Name v) k = shelf_name_program t v k
 shelf_program t (act.NameAt p) k = name_at_program t p.0 k
 shelf_program t (act.Drop v) k = drop_program t v k
 shelf_program t (act.Free v) k = free_program t v k
@@ -112,16 +112,16 @@ shelf_meaning o = meaning (shelf_program o.shelf o.act replies)
 
 -- ---- which are fit, and where they lie
 
-abbrev pub IsFitAct : Shelf → ShelfAct → Type 0
-IsFitAct t act.Reserve = Unit {0}
-IsFitAct t (act.Renew v) = IsTicket t v
-IsFitAct t (act.Name v) = IsTicket t v
-IsFitAct t (act.NameAt p) = p.0 < MOST_LOCATIONS
-IsFitAct t (act.Drop v) = IsTicket t v
-IsFitAct t (act.Free v) = IsTicket t v
+abbrev pub IsFitShelfAct : Shelf → ShelfAct → Type 0
+IsFitShelfAct t act.Reserve = Unit {0}
+IsFitShelfAct t (act.Renew v) = IsTicket t v
+IsFitShelfAct t (act.Name v) = IsTicket t v
+IsFitShelfAct t (act.NameAt p) = p.0 < MOST_LOCATIONS
+IsFitShelfAct t (act.Drop v) = IsTicket t v
+IsFitShelfAct t (act.Free v) = IsTicket t v
 
-abbrev pub IsFit : ShelfOp → Type 0
-IsFit o = IsFitAct o.shelf o.act
+abbrev pub IsFitShelfOp : ShelfOp → Type 0
+IsFitShelfOp o = IsFitShelfAct o.shelf o.act
 
 abbrev pub act_end : Shelf → ShelfAct → ℕ
 act_end t (act.NameAt p) = cond (nat_lt p.0 (shelf_cells_end t)) (shelf_cells_end t) (cond (nat_lt p.0 MOST_LOCATIONS) (p.0 + 1) MOST_LOCATIONS)
@@ -130,5 +130,5 @@ act_end t _ = shelf_cells_end t
 abbrev pub shelf_end : ShelfOp → ℕ
 shelf_end o = act_end o.shelf o.act
 
-abbrev pub op : Shelf → ShelfAct → ShelfOp
-op t a = record { shelf = t; act = a }
+abbrev pub shelf_op : Shelf → ShelfAct → ShelfOp
+shelf_op t a = record { shelf = t; act = a }

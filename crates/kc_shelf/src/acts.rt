@@ -2,7 +2,7 @@
 
 ghost use Rattle.std.specs.Prelude.{◌≡◌, ◌<◌, ◌≤◌};
 ghost use Rattle.kc_xt.specs.Steps.{Does};
-ghost use Rattle.kc_shelf.specs.Meaning.{IsSlot, IsTicket, drop_program, free_program, name_at_program, name_program, renew_program, reserve_program, shelf_cells_end};
+ghost use Rattle.kc_shelf.specs.Meaning.{IsSlot, IsTicket, drop_program, free_program, name_at_program, shelf_name_program, shelf_renew_program, reserve_program, shelf_cells_end};
 
 use crate::shelf::{MOST_NAMES, Shelf};
 use kc_model::{Loc, Reply};
@@ -37,7 +37,7 @@ pub(crate) fn reserve<P: Peek>(shelf: Shelf, xt: &mut Xt<P>) -> Result<Reply, St
 pub(crate) fn renew<P: Peek>(shelf: Shelf, ticket: u32, xt: &mut Xt<P>) -> Result<Reply, Stop>
     requires ticket { IsTicket shelf ticket }
     requires within { shelf_cells_end shelf ≤ P.locations xt.old.peek }
-    ensures goes { Does P.peek_gives (renew_program shelf ticket) xt.old result xt.new }
+    ensures goes { Does P.peek_gives (shelf_renew_program shelf ticket) xt.old result xt.new }
     ensures size { P.locations xt.new.peek ≡ P.locations xt.old.peek }
 {
     let slot = shelf.slot_of(ticket);
@@ -62,7 +62,7 @@ pub(crate) fn renew<P: Peek>(shelf: Shelf, ticket: u32, xt: &mut Xt<P>) -> Resul
 pub(crate) fn name<P: Peek>(shelf: Shelf, ticket: u32, xt: &mut Xt<P>) -> Result<Reply, Stop>
     requires ticket { IsTicket shelf ticket }
     requires within { shelf_cells_end shelf ≤ P.locations xt.old.peek }
-    ensures goes { Does P.peek_gives (name_program shelf ticket) xt.old result xt.new }
+    ensures goes { Does P.peek_gives (shelf_name_program shelf ticket) xt.old result xt.new }
     ensures size { P.locations xt.new.peek ≡ P.locations xt.old.peek }
 {
     let slot = shelf.slot_of(ticket);

@@ -20,7 +20,7 @@ pub enum Freed<'a> {
     Kept { slot: Vacant<'a>, outcome: Outcome },
 }
 
-/// Puts a slot back among the free ones.
+/// PutsValue a slot back among the free ones.
 pub fn free<'a, R: Wait>(rt: &R, caller: &mut Caller, slot: Vacant<'a>) -> Freed<'a>
     requires caller { caller.old.of ≡ slot.store.now }
     requires within { shelf_cells_end slot.shelf ≤ slot.store.now.locations }

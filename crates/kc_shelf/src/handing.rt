@@ -2,8 +2,8 @@
 
 ghost use Rattle.std.specs.Prelude.{◌≡◌, ◌≤◌, ◌<◌, ℕ};
 ghost use Rattle.kc_store.specs.Knows.{Remembers};
-ghost use Rattle.kc_shelf.specs.Meaning.{IsFitAct, IsTicket, act_end, shelf_cells_end};
-ghost use Rattle.kc_shelf.specs.Handing.{ActCame, Drops, Puts};
+ghost use Rattle.kc_shelf.specs.Meaning.{IsFitShelfAct, IsTicket, act_end, shelf_cells_end};
+ghost use Rattle.kc_shelf.specs.Handing.{ActCame, DropsName, PutsValue};
 
 use crate::operation::{ShelfAct, ShelfOp};
 use crate::pool::{Holds, Pool};
@@ -22,7 +22,7 @@ pub(crate) fn commit_act<R: Wait>(
     act: ShelfAct,
 ) -> Outcome
     requires caller { caller.old.of ≡ store.now }
-    requires fit { IsFitAct shelf act }
+    requires fit { IsFitShelfAct shelf act }
     requires within { act_end shelf act ≤ store.now.locations }
     ensures came { ActCame shelf act result caller.old caller.new }
     ensures remembers { Remembers caller.old caller.new }
@@ -39,7 +39,7 @@ pub(crate) fn commit_on<R: Wait, T: Drop, K: Holds<T>>(
     act: ShelfAct,
 ) -> Outcome
     requires caller { caller.old.of ≡ store.now }
-    requires fit { IsFitAct pool.now act }
+    requires fit { IsFitShelfAct pool.now act }
     requires within { act_end pool.now act ≤ store.now.locations }
     ensures came { ActCame pool.now act result caller.old caller.new }
     ensures remembers { Remembers caller.old caller.new }
@@ -68,7 +68,7 @@ pub enum Put<T> {
     },
 }
 
-/// Puts a value into a free slot: it has one name, which is the caller's to write where it likes. It takes no memory.
+/// PutsValue a value into a free slot: it has one name, which is the caller's to write where it likes. It takes no memory.
 pub fn put_value<R: Wait, T: Drop, K: Holds<T>>(
     rt: &R,
     store: &Store,
@@ -79,7 +79,7 @@ pub fn put_value<R: Wait, T: Drop, K: Holds<T>>(
     requires caller { caller.old.of ≡ store.now }
     requires within { shelf_cells_end pool.now ≤ store.now.locations }
     requires holds { (ticket : ℕ) → K.holds ticket value }
-    ensures puts { Puts pool.now value result caller.old caller.new }
+    ensures puts { PutsValue pool.now value result caller.old caller.new }
     ensures remembers { Remembers caller.old caller.new }
 {
     match commit_on(rt, store, caller, pool, ShelfAct::Reserve) {
@@ -128,7 +128,7 @@ pub fn drop_name<'a, R: Wait, T: Drop, K: Holds<T>>(
     requires caller { caller.old.of ≡ store.now }
     requires ticket { IsTicket pool.now ticket }
     requires within { shelf_cells_end pool.now ≤ store.now.locations }
-    ensures drops { Drops K.holds pool.now ticket store.now result caller.old caller.new }
+    ensures drops { DropsName K.holds pool.now ticket store.now result caller.old caller.new }
     ensures remembers { Remembers caller.old caller.new }
 {
     match commit_on(rt, store, caller, pool, ShelfAct::Drop(ticket)) {

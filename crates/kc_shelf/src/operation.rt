@@ -1,7 +1,7 @@
 //! The operations.
 
 ghost use Rattle.std.specs.Prelude.{◌≡◌};
-ghost use Rattle.kc_shelf.specs.Meaning.{IsFit, op, shelf_end, shelf_meaning};
+ghost use Rattle.kc_shelf.specs.Meaning.{IsFitShelfOp, shelf_op, shelf_end, shelf_meaning};
 ghost use Rattle.kc_shelf.specs.declared.operation.ShelfAct.TheVariants as act;
 
 use crate::acts;
@@ -36,7 +36,7 @@ pub struct ShelfOp {
 
 impl Shelf {
     pub fn reserve(&self) -> ShelfOp
-        ensures { result ≡ op self.now act.Reserve }
+        ensures { result ≡ shelf_op self.now act.Reserve }
     {
         ShelfOp {
             shelf: *self,
@@ -45,7 +45,7 @@ impl Shelf {
     }
 
     pub fn name(&self, ticket: u32) -> ShelfOp
-        ensures { result ≡ op self.now (act.Name ticket) }
+        ensures { result ≡ shelf_op self.now (act.Name ticket) }
     {
         ShelfOp {
             shelf: *self,
@@ -54,7 +54,7 @@ impl Shelf {
     }
 
     pub fn name_at(&self, place: Loc) -> ShelfOp
-        ensures { result ≡ op self.now (act.NameAt place) }
+        ensures { result ≡ shelf_op self.now (act.NameAt place) }
     {
         ShelfOp {
             shelf: *self,
@@ -63,7 +63,7 @@ impl Shelf {
     }
 
     pub fn drop_name(&self, ticket: u32) -> ShelfOp
-        ensures { result ≡ op self.now (act.Drop ticket) }
+        ensures { result ≡ shelf_op self.now (act.Drop ticket) }
     {
         ShelfOp {
             shelf: *self,
@@ -75,7 +75,7 @@ impl Shelf {
 impl Transact for ShelfOp {
     ghost meaning = { shelf_meaning };
 
-    ghost is_fit = { IsFit };
+    ghost is_fit = { IsFitShelfOp };
 
     ghost end = { shelf_end };
 

@@ -24,7 +24,7 @@ pub enum Read<'a, A, T> {
         lease: Footprint,
         back: Dropped<'a, T>,
     },
-    /// It names none, or no further name fits, or something is worn out.
+    /// It names none, or no further name fits, or something is worn out. Nothing was leased, unless a ticket is replied.
     Not {
         outcome: Outcome,
     },

@@ -7,12 +7,12 @@ use borrow.Author.Tests.{eqb-false}
 use Rattle.kc_model.specs.declared.reply.Reply.{Reply}
 use Rattle.kc_model.specs.declared.reply.Reply.TheVariants as reply
 use Rattle.kc_shelf.proofs.ShelfLaw.{slot_in, slot_some}
-use Rattle.kc_shelf.specs.Meaning.{IsFitAct, IsSlot, IsTicket, count_at, first_free, head_at, last_life, life_at, life_of, next_at, shelf_program, slot_of, ticket_of}
+use Rattle.kc_shelf.specs.Meaning.{IsFitShelfAct, IsSlot, IsTicket, count_at, first_free, head_at, last_life, life_at, life_of, next_at, shelf_program, slot_of, ticket_of}
 use Rattle.kc_shelf.specs.declared.operation.ShelfAct.{ShelfAct}
 use Rattle.kc_shelf.specs.declared.operation.ShelfAct.TheVariants as act
 use Rattle.kc_shelf.specs.declared.shelf.TheConstants.{MOST_NAMES}
 use Rattle.kc_shelf.specs.declared.shelf.Shelf.{Shelf}
-use Rattle.kc_shelf_laws.specs.Lives.{ActTurns, IsOver, IsToCome, SlotsTurn, Turns, life_begun, name_had, name_lost, names_of, one_of}
+use Rattle.kc_shelf_laws.specs.Lives.{ActTurns, IsOver, IsToCome, SlotsTurn, Turns, life_begun, name_had, name_lost, ticket_names, one_of}
 use Rattle.kc_xt.specs.Meaning.{put, replied}
 use Rattle.kc_xt.specs.Program.{Plain, Program, plain, replies}
 
@@ -55,7 +55,7 @@ module _ (t : Shelf) where
     life : (k : ℕ) → IsSlot t k → k ≢ n → w (life_at t k) ≡ m (life_at t k)
     count : (k : ℕ) → IsSlot t k → k ≢ n → w (count_at t k) ≡ m (count_at t k)
 
-  spared_names : (n : ℕ) (m w : ℕ → ℕ) → Spares n m w → (v : ℕ) → IsTicket t v → slot_of t v ≢ n → names_of t w v ≡ names_of t m v
+  spared_names : (n : ℕ) (m w : ℕ → ℕ) → Spares n m w → (v : ℕ) → IsTicket t v → slot_of t v ≢ n → ticket_names t w v ≡ ticket_names t m v
   spared_names n m w spares v ticket ne = rw (spares.life (slot_of t v) ticket ne, spares.count (slot_of t v) ticket ne) refl
 
   turns_by : (n : ℕ) (m w : ℕ → ℕ) → Spares n m w → (IsSlot t n → Turns (m (life_at t n)) (m (count_at t n)) (w (life_at t n)) (w (count_at t n))) → SlotsTurn t m w
@@ -73,7 +73,7 @@ module _ (t : Shelf) where
   agrees_turns : (m w : ℕ → ℕ) → Agrees m w → SlotsTurn t m w
   agrees_turns m w a k slot = inl (a.life k slot, λ z. a.count k slot ∙ z)
 
-  agrees_names : (m w : ℕ → ℕ) → Agrees m w → (v : ℕ) → IsTicket t v → names_of t w v ≡ names_of t m v
+  agrees_names : (m w : ℕ → ℕ) → Agrees m w → (v : ℕ) → IsTicket t v → ticket_names t w v ≡ ticket_names t m v
   agrees_names m w a v ticket = rw (a.life (slot_of t v) ticket, a.count (slot_of t v) ticket) refl
 
   agrees_still : (m : ℕ → ℕ) → Agrees m m
@@ -81,10 +81,10 @@ module _ (t : Shelf) where
 
   -- ---- the names of the ticket of a slot in its life
 
-  pub named_here : (m : ℕ → ℕ) (v : ℕ) → m (life_at t (slot_of t v)) ≡ life_of t v → names_of t m v ≡ m (count_at t (slot_of t v))
+  pub named_here : (m : ℕ → ℕ) (v : ℕ) → m (life_at t (slot_of t v)) ≡ life_of t v → ticket_names t m v ≡ m (count_at t (slot_of t v))
   named_here m v is = let e : (m (life_at t (slot_of t v)) == life_of t v) ≡ true = grind (arith, nat_tests, is) in rw e refl
 
-  named_not : (m : ℕ → ℕ) (v : ℕ) → m (life_at t (slot_of t v)) ≢ life_of t v → names_of t m v ≡ 0
+  named_not : (m : ℕ → ℕ) (v : ℕ) → m (life_at t (slot_of t v)) ≢ life_of t v → ticket_names t m v ≡ 0
   named_not m v ne = let e : (m (life_at t (slot_of t v)) == life_of t v) ≡ false = isnt_same _ _ ne in rw e refl
 
   -- the count of a ticket's slot changes, in its life
@@ -93,10 +93,10 @@ module _ (t : Shelf) where
     in_life : m (life_at t (slot_of t u)) ≡ life_of t u
     life : w (life_at t (slot_of t u)) ≡ m (life_at t (slot_of t u))
 
-  recounted : (u : ℕ) (m w : ℕ → ℕ) → Recounts u m w → (v : ℕ) → IsTicket t v → ((u ≡ v) × (names_of t m v ≡ m (count_at t (slot_of t u))) × (names_of t w v ≡ w (count_at t (slot_of t u)))) ⊎ ((u ≢ v) × (names_of t w v ≡ names_of t m v))
+  recounted : (u : ℕ) (m w : ℕ → ℕ) → Recounts u m w → (v : ℕ) → IsTicket t v → ((u ≡ v) × (ticket_names t m v ≡ m (count_at t (slot_of t u))) × (ticket_names t w v ≡ w (count_at t (slot_of t u)))) ⊎ ((u ≢ v) × (ticket_names t w v ≡ ticket_names t m v))
   recounted u m w r v ticket = by_slot (slot_of t v == slot_of t u) refl
     where
-      by_life : (b : Bool) → (life_of t v == life_of t u) ≡ b → slot_of t v ≡ slot_of t u → ((u ≡ v) × (names_of t m v ≡ m (count_at t (slot_of t u))) × (names_of t w v ≡ w (count_at t (slot_of t u)))) ⊎ ((u ≢ v) × (names_of t w v ≡ names_of t m v))
+      by_life : (b : Bool) → (life_of t v == life_of t u) ≡ b → slot_of t v ≡ slot_of t u → ((u ≡ v) × (ticket_names t m v ≡ m (count_at t (slot_of t u))) × (ticket_names t w v ≡ w (count_at t (slot_of t u)))) ⊎ ((u ≢ v) × (ticket_names t w v ≡ ticket_names t m v))
       by_life true e q =
           let l : life_of t v ≡ life_of t u = is_same _ _ e in
           let same : v ≡ u = one_ticket v u q l in
@@ -109,7 +109,7 @@ module _ (t : Shelf) where
           let lw : w (life_at t (slot_of t v)) ≢ life_of t v = λ h. ne (sym h ∙ ap (λ i. w (life_at t i)) q ∙ r.life ∙ r.in_life) in
           inr ((λ h. ne (ap (life_of t) (sym h))), named_not w v lw ∙ sym (named_not m v lm))
 
-      by_slot : (b : Bool) → (slot_of t v == slot_of t u) ≡ b → ((u ≡ v) × (names_of t m v ≡ m (count_at t (slot_of t u))) × (names_of t w v ≡ w (count_at t (slot_of t u)))) ⊎ ((u ≢ v) × (names_of t w v ≡ names_of t m v))
+      by_slot : (b : Bool) → (slot_of t v == slot_of t u) ≡ b → ((u ≡ v) × (ticket_names t m v ≡ m (count_at t (slot_of t u))) × (ticket_names t w v ≡ w (count_at t (slot_of t u)))) ⊎ ((u ≢ v) × (ticket_names t w v ≡ ticket_names t m v))
       by_slot true e = by_life (life_of t v == life_of t u) refl (is_same _ _ e)
       by_slot false e =
           let ne : slot_of t v ≢ slot_of t u = eqb-false _ _ e in
@@ -144,7 +144,7 @@ module _ (t : Shelf) where
     none : m (count_at t n) ≡ 0
     one : w (count_at t n) ≡ 1
 
-  begins_names : (n u : ℕ) (m w : ℕ → ℕ) → BeginsLife n m w → u ≡ ticket_of t n (m (life_at t n) + 1) → (v : ℕ) → IsTicket t v → names_of t w v + 0 ≡ names_of t m v + one_of (Some u) v
+  begins_names : (n u : ℕ) (m w : ℕ → ℕ) → BeginsLife n m w → u ≡ ticket_of t n (m (life_at t n) + 1) → (v : ℕ) → IsTicket t v → ticket_names t w v + 0 ≡ ticket_names t m v + one_of (Some u) v
   begins_names n u m w b is v ticket = by_slot (slot_of t v == n) refl
     where
       su : slot_of t u ≡ n
@@ -153,7 +153,7 @@ module _ (t : Shelf) where
       lu : life_of t u ≡ m (life_at t n) + 1
       lu = ap (life_of t) is ∙ life_named n (m (life_at t n) + 1) b.slot
 
-      none_before : slot_of t v ≡ n → names_of t m v ≡ 0
+      none_before : slot_of t v ≡ n → ticket_names t m v ≡ 0
       none_before q = by_life (m (life_at t (slot_of t v)) == life_of t v)
         where
           zero_there : m (count_at t (slot_of t v)) ≡ 0
@@ -163,11 +163,11 @@ module _ (t : Shelf) where
           by_life true = zero_there
           by_life false = refl
 
-      by_ticket : (c : Bool) → (u == v) ≡ c → slot_of t v ≡ n → names_of t w v + 0 ≡ names_of t m v + cond c 1 0
+      by_ticket : (c : Bool) → (u == v) ≡ c → slot_of t v ≡ n → ticket_names t w v + 0 ≡ ticket_names t m v + cond c 1 0
       by_ticket true e q =
           let same : u ≡ v = is_same u v e in
           let l : w (life_at t (slot_of t v)) ≡ life_of t v = ap (λ i. w (life_at t i)) q ∙ b.life ∙ sym lu ∙ ap (life_of t) same in
-          let y : names_of t w v ≡ 1 = named_here w v l ∙ ap (λ i. w (count_at t i)) q ∙ b.one in
+          let y : ticket_names t w v ≡ 1 = named_here w v l ∙ ap (λ i. w (count_at t i)) q ∙ b.one in
           let x = none_before q in
           omega (arith, x, y)
       by_ticket false e q =
@@ -177,7 +177,7 @@ module _ (t : Shelf) where
           let x = none_before q in
           omega (arith, x, y)
 
-      by_slot : (c : Bool) → (slot_of t v == n) ≡ c → names_of t w v + 0 ≡ names_of t m v + one_of (Some u) v
+      by_slot : (c : Bool) → (slot_of t v == n) ≡ c → ticket_names t w v + 0 ≡ ticket_names t m v + one_of (Some u) v
       by_slot true e = by_ticket (u == v) refl (is_same _ _ e)
       by_slot false e =
           let ne : slot_of t v ≢ n = eqb-false _ _ e in
@@ -317,7 +317,7 @@ module _ (t : Shelf) where
       same_drop : (x y : ℕ) → act.Drop x ≡ act.Drop y → x ≡ y
       same_drop x y e = cc
 
-  pub act_leads : (m : ℕ → ℕ) (a : ShelfAct) → IsFitAct t a → Leads a m (plain (shelf_program t a replies) m)
+  pub act_leads : (m : ℕ → ℕ) (a : ShelfAct) → IsFitShelfAct t a → Leads a m (plain (shelf_program t a replies) m)
   act_leads m act.Reserve fit =
       let n = first_free t (m (head_at t)) in
       run_if (Leads act.Reserve m) m (n == 0) _ _ (λ _. nothing act.Reserve reply.Empty m m (agrees_still m) refl refl refl (λ v e f. absurd (cc))) (λ some.

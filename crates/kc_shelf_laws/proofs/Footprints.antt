@@ -9,7 +9,7 @@ use Rattle.kc_model.specs.declared.footprint.Footprint.{Footprint}
 use Rattle.kc_model.specs.declared.footprint.Put.{Put}
 use Rattle.kc_model.specs.declared.footprint.Seen.{Seen}
 use Rattle.kc_model.specs.declared.plain_store.Cell.{Cell}
-use Rattle.kc_shelf_laws.specs.Lives.{left_by, seen_by, value_put}
+use Rattle.kc_shelf_laws.specs.Lives.{values_left, values_seen, value_put}
 use Rattle.kc_shelf_laws.specs.Names.{places_of}
 use Rattle.kc_xt.specs.Meaning.{values}
 
@@ -40,12 +40,12 @@ found_read (q ∷ rs) l r e = by_test (q.loc.0 == l) refl e (found_read rs l r)
 module _ (f : Footprint) (s : Store) (made : IsWellMade f) (finds : Finds f s) where
   -- at a location nothing changes, or all is seen and left
   abbrev pub IsMoved : ℕ → Type 0
-  IsMoved l = ((values (after f s) l ≡ values s l) × (left_by f l ≡ seen_by f l)) ⊎ ((values (after f s) l ≡ left_by f l) × (values s l ≡ seen_by f l))
+  IsMoved l = ((values (after f s) l ≡ values s l) × (values_left f l ≡ values_seen f l)) ⊎ ((values (after f s) l ≡ values_left f l) × (values s l ≡ values_seen f l))
 
   pub moved : (l : ℕ) → IsMoved l
   moved l = by_put (put_at f.puts.items l) refl
     where
-      by_put : (o : Option Put) → put_at f.puts.items l ≡ o → (((cell_after o (s l)).value ≡ values s l) × (value_put o (seen_by f l) ≡ seen_by f l)) ⊎ (((cell_after o (s l)).value ≡ value_put o (seen_by f l)) × (values s l ≡ seen_by f l))
+      by_put : (o : Option Put) → put_at f.puts.items l ≡ o → (((cell_after o (s l)).value ≡ values s l) × (value_put o (values_seen f l) ≡ values_seen f l)) ⊎ (((cell_after o (s l)).value ≡ value_put o (values_seen f l)) × (values s l ≡ values_seen f l))
       by_put None e = inl (refl, refl)
       by_put (Some p) e =
           let r = seen_is f made l p e in
@@ -54,24 +54,24 @@ module _ (f : Footprint) (s : Store) (made : IsWellMade f) (finds : Finds f s) w
           inr (refl, rw read stood)
 
   -- what was read is what stands, and what was left is what stands behind
-  pub read_moved : (l : ℕ) (r : Seen) → read_at f.reads.items l ≡ Some r → (values (after f s) l ≡ left_by f l) × (values s l ≡ seen_by f l)
+  pub read_moved : (l : ℕ) (r : Seen) → read_at f.reads.items l ≡ Some r → (values (after f s) l ≡ values_left f l) × (values s l ≡ values_seen f l)
   read_moved l r e = by_move (moved l)
     where
       found : Contains f.reads.items r × (r.loc.0 ≡ l)
       found = found_read f.reads.items l r e
 
-      stood : values s l ≡ seen_by f l
+      stood : values s l ≡ values_seen f l
       stood = rw e (subst (λ k. values s k ≡ r.value) found.1 (ap (λ (c : Cell). c.value) (finds r found.0)))
 
-      by_move : ((values (after f s) l ≡ values s l) × (left_by f l ≡ seen_by f l)) ⊎ ((values (after f s) l ≡ left_by f l) × (values s l ≡ seen_by f l)) → (values (after f s) l ≡ left_by f l) × (values s l ≡ seen_by f l)
+      by_move : ((values (after f s) l ≡ values s l) × (values_left f l ≡ values_seen f l)) ⊎ ((values (after f s) l ≡ values_left f l) × (values s l ≡ values_seen f l)) → (values (after f s) l ≡ values_left f l) × (values s l ≡ values_seen f l)
       by_move (inl (a, b)) = (a ∙ stood ∙ sym b, stood)
       by_move (inr h) = h
 
   -- the places that hold a ticket change as in what was seen
-  pub places_move : (ps : List ℕ) (v : ℕ) → places_of ps (values (after f s)) v + places_of ps (seen_by f) v ≡ places_of ps (values s) v + places_of ps (left_by f) v
+  pub places_move : (ps : List ℕ) (v : ℕ) → places_of ps (values (after f s)) v + places_of ps (values_seen f) v ≡ places_of ps (values s) v + places_of ps (values_left f) v
   places_move [] v = refl
   places_move (l ∷ ls) v = at_place (moved l) (places_move ls v)
     where
-      at_place : IsMoved l → places_of ls (values (after f s)) v + places_of ls (seen_by f) v ≡ places_of ls (values s) v + places_of ls (left_by f) v → places_of (l ∷ ls) (values (after f s)) v + places_of (l ∷ ls) (seen_by f) v ≡ places_of (l ∷ ls) (values s) v + places_of (l ∷ ls) (left_by f) v
+      at_place : IsMoved l → places_of ls (values (after f s)) v + places_of ls (values_seen f) v ≡ places_of ls (values s) v + places_of ls (values_left f) v → places_of (l ∷ ls) (values (after f s)) v + places_of (l ∷ ls) (values_seen f) v ≡ places_of (l ∷ ls) (values s) v + places_of (l ∷ ls) (values_left f) v
       at_place (inl (a, b)) rest = rw (a, b) (omega (arith, rest))
       at_place (inr (a, b)) rest = rw (a, b) (omega (arith, rest))

@@ -8,7 +8,7 @@ use Rattle.kc_model.specs.Store.{Store, after}
 use Rattle.kc_model.specs.declared.footprint.Entry.{Entry}
 use Rattle.kc_shelf.specs.Meaning.{IsTicket, count_at, life_at, life_of, slot_of}
 use Rattle.kc_shelf.specs.declared.shelf.Shelf.{Shelf}
-use Rattle.kc_shelf_laws.specs.Lives.{EndsAtOne, IsOver, KeepsLives, SlotsTurn, Turns, names_of}
+use Rattle.kc_shelf_laws.specs.Lives.{EndsAtOne, IsOver, KeepsLives, SlotsTurn, Turns, ticket_names}
 use Rattle.kc_xt.specs.Meaning.{values}
 
 turned_over : (a l c k d : ℕ) → Turns l c k d → (a < l) ⊎ ((l ≡ a) × (c ≡ 0)) → (a < k) ⊎ ((k ≡ a) × (d ≡ 0))
@@ -42,12 +42,12 @@ module _ (t : Shelf) (v : ℕ) (ticket : IsTicket t v) where
       begun_stays xs (after x.footprint s) e legal.1 (All-tail (Keeps t) x xs keep) (begun_by (values s) (values (after x.footprint s)) ((All-head (Keeps t) x xs keep).turns s legal.0) begun)
 
   -- what is over has no name
-  pub over_none : (m : ℕ → ℕ) → IsOver t m v → names_of t m v ≡ 0
+  pub over_none : (m : ℕ → ℕ) → IsOver t m v → ticket_names t m v ≡ 0
   over_none m (inl later) = let e : (m (life_at t (slot_of t v)) == life_of t v) ≡ false = grind (arith, nat_tests, later) in rw e refl
   over_none m (inr (is, zero)) = let e : (m (life_at t (slot_of t v)) == life_of t v) ≡ true = grind (arith, nat_tests, is) in rw e zero
 
 -- who has a name is in its life, with a count
-pub named_is : (t : Shelf) (m : ℕ → ℕ) (v : ℕ) → 0 < names_of t m v → (m (life_at t (slot_of t v)) ≡ life_of t v) × (0 < m (count_at t (slot_of t v)))
+pub named_is : (t : Shelf) (m : ℕ → ℕ) (v : ℕ) → 0 < ticket_names t m v → (m (life_at t (slot_of t v)) ≡ life_of t v) × (0 < m (count_at t (slot_of t v)))
 named_is t m v some = by_test (m (life_at t (slot_of t v)) == life_of t v) refl some
   where
     by_test : (b : Bool) → (m (life_at t (slot_of t v)) == life_of t v) ≡ b → 0 < cond b (m (count_at t (slot_of t v))) 0 → (m (life_at t (slot_of t v)) ≡ life_of t v) × (0 < m (count_at t (slot_of t v)))
@@ -56,7 +56,7 @@ named_is t m v some = by_test (m (life_at t (slot_of t v)) == life_of t v) refl 
 
 -- ---- where a life ends
 
-ends_over : (t : Shelf) (v : ℕ) → IsTicket t v → (m w : ℕ → ℕ) → SlotsTurn t m w → 0 < names_of t m v → names_of t w v ≡ 0 → IsOver t w v
+ends_over : (t : Shelf) (v : ℕ) → IsTicket t v → (m w : ℕ → ℕ) → SlotsTurn t m w → 0 < ticket_names t m v → ticket_names t w v ≡ 0 → IsOver t w v
 ends_over t v ticket m w turns some none =
     let is = named_is t m v some in
     by_turn (life_of t v) (m (life_at t (slot_of t v))) (m (count_at t (slot_of t v))) (w (life_at t (slot_of t v))) (w (count_at t (slot_of t v))) (turns (slot_of t v) ticket) is.0 is.1 none
@@ -65,14 +65,14 @@ ends_over t v ticket m w turns some none =
     by_turn a l c k d (inl (same, h)) is some none = let e : k ≡ a = same ∙ is in let t : (k == a) ≡ true = grind (arith, nat_tests, e) in inr (e, rw t at none)
     by_turn a l c k d (inr (rises, z)) is some none = absurd (omega (arith, some, z))
 
-pub ends_at : (t : Shelf) (v : ℕ) → IsTicket t v → (es : List Entry) (s e : Store) → IsLegal s es e → All (Keeps t) es → 0 < names_of t (values s) v → names_of t (values e) v ≡ 0 → EndsAtOne t s es v
-ends_at t v ticket [] s e legal keep some none = let z : names_of t (values s) v ≡ 0 = subst (λ (u : Store). names_of t (values u) v ≡ 0) legal none in absurd (omega (arith, some, z))
-ends_at t v ticket (x ∷ xs) s e legal keep some none = by_test (names_of t (values (after x.footprint s)) v == 0) refl (λ more. ends_at t v ticket xs (after x.footprint s) e legal.1 (All-tail (Keeps t) x xs keep) more none)
+pub ends_at : (t : Shelf) (v : ℕ) → IsTicket t v → (es : List Entry) (s e : Store) → IsLegal s es e → All (Keeps t) es → 0 < ticket_names t (values s) v → ticket_names t (values e) v ≡ 0 → EndsAtOne t s es v
+ends_at t v ticket [] s e legal keep some none = let z : ticket_names t (values s) v ≡ 0 = subst (λ (u : Store). ticket_names t (values u) v ≡ 0) legal none in absurd (omega (arith, some, z))
+ends_at t v ticket (x ∷ xs) s e legal keep some none = by_test (ticket_names t (values (after x.footprint s)) v == 0) refl (λ more. ends_at t v ticket xs (after x.footprint s) e legal.1 (All-tail (Keeps t) x xs keep) more none)
   where
     turns : SlotsTurn t (values s) (values (after x.footprint s))
     turns = (All-head (Keeps t) x xs keep).turns s legal.0
 
-    by_test : (b : Bool) → (names_of t (values (after x.footprint s)) v == 0) ≡ b → (0 < names_of t (values (after x.footprint s)) v → EndsAtOne t (after x.footprint s) xs v) → EndsAtOne t s (x ∷ xs) v
+    by_test : (b : Bool) → (ticket_names t (values (after x.footprint s)) v == 0) ≡ b → (0 < ticket_names t (values (after x.footprint s)) v → EndsAtOne t (after x.footprint s) xs v) → EndsAtOne t s (x ∷ xs) v
     by_test true h ih = record {
       before = [];
       last = x;
@@ -84,7 +84,7 @@ ends_at t v ticket (x ∷ xs) s e legal keep some none = by_test (names_of t (va
       over = ends_over t v ticket (values s) (values (after x.footprint s)) turns some (grind (arith, nat_tests, h));
     }
     by_test false h ih =
-        let more : 0 < names_of t (values (after x.footprint s)) v = grind (arith, nat_tests, h) in
+        let more : 0 < ticket_names t (values (after x.footprint s)) v = grind (arith, nat_tests, h) in
         let rest = ih more in
         record {
           before = x ∷ rest.before;

@@ -10,7 +10,7 @@ use Rattle.kc_model.specs.declared.footprint.Entry.{Entry}
 use Rattle.kc_shelf.specs.Meaning.{IsTicket}
 use Rattle.kc_shelf.specs.declared.shelf.Shelf.{Shelf}
 use Rattle.kc_shelf_laws.proofs.Footprints.{places_move}
-use Rattle.kc_shelf_laws.specs.Lives.{KeepsLives, names_of}
+use Rattle.kc_shelf_laws.specs.Lives.{KeepsLives, ticket_names}
 use Rattle.kc_shelf_laws.specs.Names.{CallerKeepsNames, GivesItsOwn, KeepNames, NamesAre, all_hands, empty_hands, hands, hands_behind, in_hand_behind, names_gained, names_given, places_of}
 use Rattle.kc_shelf.specs.kc_store.Knows.{entries_of}
 use Rattle.kc_xt.specs.Meaning.{values}
@@ -91,7 +91,7 @@ module _ (t : Shelf) (ps : List ℕ) where
   stand_behind n (x ∷ xs) s end held legal below keep are =
       stand_behind n xs (after x.footprint s) end (hands_behind t ps x held) legal.1 (All-tail (Below n) x xs below) keep.2 (step n s held x legal.0 (All-head (Below n) x xs below) keep.0 keep.1 are)
 
-  pub opened_are : (n : ℕ) (m : ℕ → ℕ) → ((v : ℕ) → IsTicket t v → (names_of t m v ≡ 0) × (places_of ps m v ≡ 0)) → NamesAre t ps n m empty_hands
+  pub opened_are : (n : ℕ) (m : ℕ → ℕ) → ((v : ℕ) → IsTicket t v → (ticket_names t m v ≡ 0) × (places_of ps m v ≡ 0)) → NamesAre t ps n m empty_hands
   opened_are n m none = λ v ticket. let z = none v ticket in let e = empty_sum n v in omega (arith, z, e)
 
   pub front_keeps : (before behind : List Entry) (held : ℕ → ℕ → ℕ) → KeepNames t ps held (before ++ behind) → KeepNames t ps held before
@@ -107,15 +107,15 @@ module _ (t : Shelf) (ps : List ℕ) where
 
   -- ---- what follows where the counts are these
 
-  pub nobody_has : (n : ℕ) (m : ℕ → ℕ) (held : ℕ → ℕ → ℕ) (v : ℕ) → IsTicket t v → NamesAre t ps n m held → names_of t m v ≡ 0 → ((k : ℕ) → k < n → held k v ≡ 0) × ((l : ℕ) → Contains ps l → m l ≢ v)
+  pub nobody_has : (n : ℕ) (m : ℕ → ℕ) (held : ℕ → ℕ → ℕ) (v : ℕ) → IsTicket t v → NamesAre t ps n m held → ticket_names t m v ≡ 0 → ((k : ℕ) → k < n → held k v ≡ 0) × ((l : ℕ) → Contains ps l → m l ≢ v)
   nobody_has n m held v ticket are none =
       let is = are v ticket in
       (λ k lt. none_in_sum n k v held lt (omega (arith, is, none)), λ l there. none_at_place ps m v l there (omega (arith, is, none)))
 
-  pub hand_is_named : (n : ℕ) (m : ℕ → ℕ) (held : ℕ → ℕ → ℕ) (k v : ℕ) → IsTicket t v → NamesAre t ps n m held → k < n → 0 < held k v → 0 < names_of t m v
+  pub hand_is_named : (n : ℕ) (m : ℕ → ℕ) (held : ℕ → ℕ → ℕ) (k v : ℕ) → IsTicket t v → NamesAre t ps n m held → k < n → 0 < held k v → 0 < ticket_names t m v
   hand_is_named n m held k v ticket are lt some = let is = are v ticket in let h = some_in_sum n k v held lt in omega (arith, is, h, some)
 
-  pub place_is_named : (n : ℕ) (m : ℕ → ℕ) (held : ℕ → ℕ → ℕ) (l v : ℕ) → IsTicket t v → NamesAre t ps n m held → Contains ps l → m l ≡ v → 0 < names_of t m v
+  pub place_is_named : (n : ℕ) (m : ℕ → ℕ) (held : ℕ → ℕ → ℕ) (l v : ℕ) → IsTicket t v → NamesAre t ps n m held → Contains ps l → m l ≡ v → 0 < ticket_names t m v
   place_is_named n m held l v ticket are there is = let a = are v ticket in let h = some_at_place ps m v l there is in omega (arith, a, h)
 
   -- ---- from callers to the history

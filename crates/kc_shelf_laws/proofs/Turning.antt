@@ -13,12 +13,12 @@ use Rattle.kc_model.specs.declared.footprint.TheConstants.{MOST}
 use Rattle.kc_model.specs.declared.plain_store.Cell.{Cell}
 use Rattle.kc_model.specs.declared.reply.Answer.TheVariants as answer
 use Rattle.kc_model.specs.declared.reply.Reply.{Reply}
-use Rattle.kc_shelf.specs.Meaning.{IsFitAct, IsSlot, IsTicket, count_at, life_at, life_of, op, shelf_meaning, shelf_program, slot_of, ticket_of}
+use Rattle.kc_shelf.specs.Meaning.{IsFitShelfAct, IsSlot, IsTicket, count_at, life_at, life_of, shelf_op, shelf_meaning, shelf_program, slot_of, ticket_of}
 use Rattle.kc_shelf.specs.declared.operation.ShelfAct.{ShelfAct}
 use Rattle.kc_shelf.specs.declared.shelf.Shelf.{Shelf}
 use Rattle.kc_shelf_laws.proofs.Acts.{act_leads, life_named, named_here, slot_named}
 use Rattle.kc_shelf_laws.proofs.Footprints.{moved, read_moved, seen_is}
-use Rattle.kc_shelf_laws.specs.Lives.{ActTurns, KeepsLives, Turns, left_by, name_had, name_lost, names_of, one_of, seen_by, value_put}
+use Rattle.kc_shelf_laws.specs.Lives.{ActTurns, KeepsLives, Turns, values_left, name_had, name_lost, ticket_names, one_of, values_seen, value_put}
 use Rattle.kc_xt.proofs.PlainRuns.{plain-meaning}
 use Rattle.kc_xt.specs.Commit.{Answers, run_on}
 use Rattle.kc_xt.specs.Meaning.{Outcome, replied, too_large, values}
@@ -31,9 +31,9 @@ not_large : (o : Outcome) (r : Reply) → o ≡ replied r → o ≢ too_large
 not_large o r e f = absurd (cc)
 
 -- wherever the entry of an operation is found, it turns so
-pub turned_so : (t : Shelf) (a : ShelfAct) (r : Reply) (f : Footprint) (s : Store) → IsFitAct t a → Answers (shelf_meaning (op t a)) (answer.Reply r) f → Finds f s → ActTurns t a r (values s) (values (after f s))
+pub turned_so : (t : Shelf) (a : ShelfAct) (r : Reply) (f : Footprint) (s : Store) → IsFitShelfAct t a → Answers (shelf_meaning (shelf_op t a)) (answer.Reply r) f → Finds f s → ActTurns t a r (values s) (values (after f s))
 turned_so t a r f s fit answers finds =
-    let m = shelf_meaning (op t a) in
+    let m = shelf_meaning (shelf_op t a) in
     let outcome : (run_on m s).outcome ≡ replied r = says (run_on m s).outcome r (answers.run s finds) in
     let is_plain = plain-meaning (shelf_program t a replies) MOST (values s) [] (not_large _ r outcome) in
     let leads = act_leads t (values s) a fit in
@@ -89,7 +89,7 @@ younger t (Some w) v lt = by_test (w == v) refl
     by_test true e = let q : w ≡ v = grind (arith, nat_tests, e) in let lower : life_of t v < life_of t v = subst (λ i. life_of t i < life_of t v) q lt in absurd (omega (arith, lower))
     by_test false e = refl
 
-same_names : (t : Shelf) (m w : ℕ → ℕ) (v : ℕ) → m (life_at t (slot_of t v)) ≡ w (life_at t (slot_of t v)) → m (count_at t (slot_of t v)) ≡ w (count_at t (slot_of t v)) → names_of t m v ≡ names_of t w v
+same_names : (t : Shelf) (m w : ℕ → ℕ) (v : ℕ) → m (life_at t (slot_of t v)) ≡ w (life_at t (slot_of t v)) → m (count_at t (slot_of t v)) ≡ w (count_at t (slot_of t v)) → ticket_names t m v ≡ ticket_names t w v
 same_names t m w v e g = rw (e, g) refl
 
 all_stay : (a b c d : ℕ) → a ≡ c → d ≡ b → a + b ≡ c + d
@@ -98,7 +98,7 @@ all_stay a b c d e f = omega (arith, e, f)
 all_seen : (a b c d : ℕ) → a ≡ d → c ≡ b → a + b ≡ c + d
 all_seen a b c d e f = omega (arith, e, f)
 
-module _ (t : Shelf) (a : ShelfAct) (r : Reply) (f : Footprint) (fit : IsFitAct t a) (answers : Answers (shelf_meaning (op t a)) (answer.Reply r) f) where
+module _ (t : Shelf) (a : ShelfAct) (r : Reply) (f : Footprint) (fit : IsFitShelfAct t a) (answers : Answers (shelf_meaning (shelf_op t a)) (answer.Reply r) f) where
   module _ (s : Store) (finds : Finds f s) (v : ℕ) (ticket : IsTicket t v) where
     -- a life that isn't read leaves the count
     count_stays : read_at f.reads.items (life_at t (slot_of t v)) ≡ None → values (after f s) (count_at t (slot_of t v)) ≡ values s (count_at t (slot_of t v))
@@ -115,8 +115,8 @@ module _ (t : Shelf) (a : ShelfAct) (r : Reply) (f : Footprint) (fit : IsFitAct 
         let before_life : values s' (life_at t (slot_of t u)) ≡ life_of t u = ap (λ i. values s' (life_at t i)) q ∙ with_there s (life_at t (slot_of t v)) x ∙ sym p in
         let after_life : values (after f s') (life_at t (slot_of t u)) ≡ life_of t u = ap (λ i. values (after f s') (life_at t i)) q ∙ after_there f answers.well_made (life_at t (slot_of t v)) unread s x ∙ sym p in
         let apart : life_at t (slot_of t v) ≢ count_at t (slot_of t v) = omega (arith, ticket) in
-        let before_count : names_of t (values s') u ≡ values s (count_at t (slot_of t v)) = named_here t (values s') u before_life ∙ ap (λ i. values s' (count_at t i)) q ∙ ap (λ (c : Cell). c.value) (with_else s (life_at t (slot_of t v)) x (count_at t (slot_of t v)) apart) in
-        let after_count : names_of t (values (after f s')) u ≡ values (after f s) (count_at t (slot_of t v)) = named_here t (values (after f s')) u after_life ∙ ap (λ i. values (after f s') (count_at t i)) q ∙ after_else f answers.well_made (life_at t (slot_of t v)) unread s x (count_at t (slot_of t v)) apart in
+        let before_count : ticket_names t (values s') u ≡ values s (count_at t (slot_of t v)) = named_here t (values s') u before_life ∙ ap (λ i. values s' (count_at t i)) q ∙ ap (λ (c : Cell). c.value) (with_else s (life_at t (slot_of t v)) x (count_at t (slot_of t v)) apart) in
+        let after_count : ticket_names t (values (after f s')) u ≡ values (after f s) (count_at t (slot_of t v)) = named_here t (values (after f s')) u after_life ∙ ap (λ i. values (after f s') (count_at t i)) q ∙ after_else f answers.well_made (life_at t (slot_of t v)) unread s x (count_at t (slot_of t v)) apart in
         let balance = turned.names u is_ticket in
         sym after_count ∙ equal_names _ _ _ _ balance had lost ∙ before_count
       where
@@ -138,27 +138,27 @@ module _ (t : Shelf) (a : ShelfAct) (r : Reply) (f : Footprint) (fit : IsFitAct 
         by_turn l c k d some (inr h) = absurd (omega (arith, some, h.1))
 
     -- where nothing was put all stays
-    stays_unput : (l : ℕ) → put_at f.puts.items l ≡ None → (values (after f s) l ≡ values s l) × (left_by f l ≡ seen_by f l)
-    stays_unput l e = (ap (λ (o : Option Put). (cell_after o (s l)).value) e, ap (λ (o : Option Put). value_put o (seen_by f l)) e)
+    stays_unput : (l : ℕ) → put_at f.puts.items l ≡ None → (values (after f s) l ≡ values s l) × (values_left f l ≡ values_seen f l)
+    stays_unput l e = (ap (λ (o : Option Put). (cell_after o (s l)).value) e, ap (λ (o : Option Put). value_put o (values_seen f l)) e)
 
-    pub balanced : names_of t (values (after f s)) v + names_of t (seen_by f) v ≡ names_of t (values s) v + names_of t (left_by f) v
+    pub balanced : ticket_names t (values (after f s)) v + ticket_names t (values_seen f) v ≡ ticket_names t (values s) v + ticket_names t (values_left f) v
     balanced = by_life (read_at f.reads.items (life_at t (slot_of t v))) refl
       where
-        stay : (values (after f s) (life_at t (slot_of t v)) ≡ values s (life_at t (slot_of t v))) → (left_by f (life_at t (slot_of t v)) ≡ seen_by f (life_at t (slot_of t v))) → (values (after f s) (count_at t (slot_of t v)) ≡ values s (count_at t (slot_of t v))) → (left_by f (count_at t (slot_of t v)) ≡ seen_by f (count_at t (slot_of t v))) → names_of t (values (after f s)) v + names_of t (seen_by f) v ≡ names_of t (values s) v + names_of t (left_by f) v
-        stay p q x y = all_stay _ _ _ _ (same_names t (values (after f s)) (values s) v p x) (same_names t (left_by f) (seen_by f) v q y)
+        stay : (values (after f s) (life_at t (slot_of t v)) ≡ values s (life_at t (slot_of t v))) → (values_left f (life_at t (slot_of t v)) ≡ values_seen f (life_at t (slot_of t v))) → (values (after f s) (count_at t (slot_of t v)) ≡ values s (count_at t (slot_of t v))) → (values_left f (count_at t (slot_of t v)) ≡ values_seen f (count_at t (slot_of t v))) → ticket_names t (values (after f s)) v + ticket_names t (values_seen f) v ≡ ticket_names t (values s) v + ticket_names t (values_left f) v
+        stay p q x y = all_stay _ _ _ _ (same_names t (values (after f s)) (values s) v p x) (same_names t (values_left f) (values_seen f) v q y)
 
-        left_where : (l : ℕ) → values (after f s) l ≡ values s l → ((values (after f s) l ≡ values s l) × (left_by f l ≡ seen_by f l)) ⊎ ((values (after f s) l ≡ left_by f l) × (values s l ≡ seen_by f l)) → left_by f l ≡ seen_by f l
+        left_where : (l : ℕ) → values (after f s) l ≡ values s l → ((values (after f s) l ≡ values s l) × (values_left f l ≡ values_seen f l)) ⊎ ((values (after f s) l ≡ values_left f l) × (values s l ≡ values_seen f l)) → values_left f l ≡ values_seen f l
         left_where l same (inl h) = h.1
         left_where l same (inr h) = sym h.0 ∙ same ∙ h.1
 
-        by_count : (o : Option Seen) → read_at f.reads.items (count_at t (slot_of t v)) ≡ o → (values (after f s) (life_at t (slot_of t v)) ≡ left_by f (life_at t (slot_of t v))) × (values s (life_at t (slot_of t v)) ≡ seen_by f (life_at t (slot_of t v))) → names_of t (values (after f s)) v + names_of t (seen_by f) v ≡ names_of t (values s) v + names_of t (left_by f) v
-        by_count (Some c) e life = let count = read_moved f s answers.well_made finds (count_at t (slot_of t v)) c e in all_seen _ _ _ _ (same_names t (values (after f s)) (left_by f) v life.0 count.0) (same_names t (values s) (seen_by f) v life.1 count.1)
+        by_count : (o : Option Seen) → read_at f.reads.items (count_at t (slot_of t v)) ≡ o → (values (after f s) (life_at t (slot_of t v)) ≡ values_left f (life_at t (slot_of t v))) × (values s (life_at t (slot_of t v)) ≡ values_seen f (life_at t (slot_of t v))) → ticket_names t (values (after f s)) v + ticket_names t (values_seen f) v ≡ ticket_names t (values s) v + ticket_names t (values_left f) v
+        by_count (Some c) e life = let count = read_moved f s answers.well_made finds (count_at t (slot_of t v)) c e in all_seen _ _ _ _ (same_names t (values (after f s)) (values_left f) v life.0 count.0) (same_names t (values s) (values_seen f) v life.1 count.1)
         by_count None e life =
             let same = life_stays e in
             let count = stays_unput (count_at t (slot_of t v)) (unput f answers.well_made (count_at t (slot_of t v)) e) in
             stay same (sym life.0 ∙ same ∙ life.1) count.0 count.1
 
-        by_life : (o : Option Seen) → read_at f.reads.items (life_at t (slot_of t v)) ≡ o → names_of t (values (after f s)) v + names_of t (seen_by f) v ≡ names_of t (values s) v + names_of t (left_by f) v
+        by_life : (o : Option Seen) → read_at f.reads.items (life_at t (slot_of t v)) ≡ o → ticket_names t (values (after f s)) v + ticket_names t (values_seen f) v ≡ ticket_names t (values s) v + ticket_names t (values_left f) v
         by_life (Some l) e = by_count (read_at f.reads.items (count_at t (slot_of t v))) refl (read_moved f s answers.well_made finds (life_at t (slot_of t v)) l e)
         by_life None e =
             let same = count_stays e in
@@ -173,7 +173,7 @@ module _ (t : Shelf) (a : ShelfAct) (r : Reply) (f : Footprint) (fit : IsFitAct 
   }
 
   -- what its own entry shows of names
-  pub own_names : (s : Store) → Finds f s → (v : ℕ) → IsTicket t v → names_of t (left_by f) v + one_of (name_lost a r) v ≡ names_of t (seen_by f) v + one_of (name_had a r) v
+  pub own_names : (s : Store) → Finds f s → (v : ℕ) → IsTicket t v → ticket_names t (values_left f) v + one_of (name_lost a r) v ≡ ticket_names t (values_seen f) v + one_of (name_had a r) v
   own_names s finds v ticket = sums _ _ _ _ _ _ (balanced s finds v ticket) ((turned_so t a r f s fit answers finds).names v ticket)
     where
       sums : (x y p q l h : ℕ) → x + p ≡ y + q → x + l ≡ y + h → q + l ≡ p + h
@@ -185,8 +185,8 @@ spares_lives t f made none = record {
   made = made;
   turns = λ s finds n slot. (let e = none n slot in let life = stays s (life_at t n) e.0 in let count = stays s (count_at t n) e.1 in inl (life.0, λ z. count.0 ∙ z));
   names = λ s finds v ticket. (let e = none (slot_of t v) ticket in let life = stays s (life_at t (slot_of t v)) e.0 in let count = stays s (count_at t (slot_of t v)) e.1 in
-      all_stay _ _ _ _ (same_names t (values (after f s)) (values s) v life.0 count.0) (same_names t (left_by f) (seen_by f) v life.1 count.1));
+      all_stay _ _ _ _ (same_names t (values (after f s)) (values s) v life.0 count.0) (same_names t (values_left f) (values_seen f) v life.1 count.1));
 }
   where
-    stays : (s : Store) (l : ℕ) → put_at f.puts.items l ≡ None → (values (after f s) l ≡ values s l) × (left_by f l ≡ seen_by f l)
-    stays s l e = (ap (λ (o : Option Put). (cell_after o (s l)).value) e, ap (λ (o : Option Put). value_put o (seen_by f l)) e)
+    stays : (s : Store) (l : ℕ) → put_at f.puts.items l ≡ None → (values (after f s) l ≡ values s l) × (values_left f l ≡ values_seen f l)
+    stays s l e = (ap (λ (o : Option Put). (cell_after o (s l)).value) e, ap (λ (o : Option Put). value_put o (values_seen f l)) e)

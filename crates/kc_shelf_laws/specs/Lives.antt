@@ -18,8 +18,8 @@ use Rattle.kc_xt.specs.Meaning.{values}
 -- ---- where these values stand
 
 -- how many names a ticket has: the count of its slot, while that is in its life
-abbrev pub names_of : Shelf → (ℕ → ℕ) → (ticket : ℕ) → ℕ
-names_of t m v = cond (m (life_at t (slot_of t v)) == life_of t v) (m (count_at t (slot_of t v))) 0
+abbrev pub ticket_names : Shelf → (ℕ → ℕ) → (ticket : ℕ) → ℕ
+ticket_names t m v = cond (m (life_at t (slot_of t v)) == life_of t v) (m (count_at t (slot_of t v))) 0
 
 -- its life hasn't begun; is over: a later one has begun, or it has no name left
 abbrev pub IsToCome : Shelf → (ℕ → ℕ) → (ticket : ℕ) → Type 0
@@ -46,17 +46,17 @@ value_put None n = n
 value_put (Some p) n = p.after
 
 -- what a footprint read, and what it left, by locations; 0 where it read nothing
-abbrev pub seen_by : Footprint → ℕ → ℕ
-seen_by f l = value_seen (read_at f.reads.items l)
+abbrev pub values_seen : Footprint → ℕ → ℕ
+values_seen f l = value_seen (read_at f.reads.items l)
 
-abbrev pub left_by : Footprint → ℕ → ℕ
-left_by f l = value_put (put_at f.puts.items l) (seen_by f l)
+abbrev pub values_left : Footprint → ℕ → ℕ
+values_left f l = value_put (put_at f.puts.items l) (values_seen f l)
 
 -- wherever it is found, slots turn so, and the names of each ticket change as in what it saw
 pub record KeepsLives (t : Shelf) (f : Footprint) : Type 0 where
   pub made : IsWellMade f
   pub turns : (s : Store) → Finds f s → SlotsTurn t (values s) (values (after f s))
-  pub names : (s : Store) → Finds f s → (v : ℕ) → IsTicket t v → names_of t (values (after f s)) v + names_of t (seen_by f) v ≡ names_of t (values s) v + names_of t (left_by f) v
+  pub names : (s : Store) → Finds f s → (v : ℕ) → IsTicket t v → ticket_names t (values (after f s)) v + ticket_names t (values_seen f) v ≡ ticket_names t (values s) v + ticket_names t (values_left f) v
 
 -- ---- by operations and replies
 
@@ -87,7 +87,7 @@ one_of (Some w) v = cond (w == v) 1 0
 -- an operation that replied so leads from these values to those
 pub record ActTurns (t : Shelf) (a : ShelfAct) (r : Reply) (m w : ℕ → ℕ) : Type 0 where
   pub turns : SlotsTurn t m w
-  pub names : (v : ℕ) → IsTicket t v → names_of t w v + one_of (name_lost a r) v ≡ names_of t m v + one_of (name_had a r) v
+  pub names : (v : ℕ) → IsTicket t v → ticket_names t w v + one_of (name_lost a r) v ≡ ticket_names t m v + one_of (name_had a r) v
   pub begins : (v : ℕ) → IsTicket t v → life_begun a r ≡ Some v → IsToCome t m v
   pub begun : (v : ℕ) → IsTicket t v → life_begun a r ≡ Some v → w (life_at t (slot_of t v)) ≡ life_of t v
   pub ends : (v : ℕ) → a ≡ act.Drop v → r ≡ reply.Empty → IsOver t w v
@@ -100,5 +100,5 @@ pub record EndsAtOne (t : Shelf) (s : Store) (es : List Entry) (v : ℕ) : Type 
   pub is : es ≡ before ++ last ∷ behind
   pub store : Store
   pub legal : IsLegal s before store
-  pub named : 0 < names_of t (values store) v
+  pub named : 0 < ticket_names t (values store) v
   pub over : IsOver t (values (after last.footprint store)) v

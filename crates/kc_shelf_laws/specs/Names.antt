@@ -4,7 +4,7 @@ use Rattle.kc_model.specs.declared.footprint.Entry.{Entry}
 use Rattle.kc_model.specs.declared.footprint.Footprint.{Footprint}
 use Rattle.kc_shelf.specs.Meaning.{IsTicket}
 use Rattle.kc_shelf.specs.declared.shelf.Shelf.{Shelf}
-use Rattle.kc_shelf_laws.specs.Lives.{KeepsLives, left_by, names_of, seen_by}
+use Rattle.kc_shelf_laws.specs.Lives.{KeepsLives, values_left, ticket_names, values_seen}
 
 -- how many of these locations hold a ticket
 abbrev pub places_of : List ℕ → (ℕ → ℕ) → (ticket : ℕ) → ℕ
@@ -13,10 +13,10 @@ places_of (l ∷ ls) m v = cond (m l == v) 1 0 + places_of ls m v
 
 -- By an entry its caller gains each name that the count gains and each that a place loses, and gives each that the count loses and each that a place gains; what stays stands on both sides.
 abbrev pub names_gained : Shelf → List ℕ → Footprint → (ticket : ℕ) → ℕ
-names_gained t ps f v = names_of t (left_by f) v + places_of ps (seen_by f) v
+names_gained t ps f v = ticket_names t (values_left f) v + places_of ps (values_seen f) v
 
 abbrev pub names_given : Shelf → List ℕ → Footprint → (ticket : ℕ) → ℕ
-names_given t ps f v = names_of t (seen_by f) v + places_of ps (left_by f) v
+names_given t ps f v = ticket_names t (values_seen f) v + places_of ps (values_left f) v
 
 -- how many names are in hand behind an entry, of so many before
 abbrev pub in_hand_behind : Shelf → List ℕ → Footprint → (ticket held : ℕ) → ℕ
@@ -61,8 +61,8 @@ all_hands (suc n) held v = held n v + all_hands n held v
 
 -- the count of each ticket is the names of callers and of places
 abbrev pub NamesAre : Shelf → List ℕ → (callers : ℕ) → (ℕ → ℕ) → (ℕ → ℕ → ℕ) → Type 0
-NamesAre t ps n m held = (v : ℕ) → IsTicket t v → names_of t m v ≡ all_hands n held v + places_of ps m v
+NamesAre t ps n m held = (v : ℕ) → IsTicket t v → ticket_names t m v ≡ all_hands n held v + places_of ps m v
 
 -- no ticket has a name, and no place holds one
 abbrev pub HasNoNames : Shelf → List ℕ → (ℕ → ℕ) → Type 0
-HasNoNames t ps m = (v : ℕ) → IsTicket t v → (names_of t m v ≡ 0) × (places_of ps m v ≡ 0)
+HasNoNames t ps m = (v : ℕ) → IsTicket t v → (ticket_names t m v ≡ 0) × (places_of ps m v ≡ 0)
