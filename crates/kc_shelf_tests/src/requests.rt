@@ -14,7 +14,7 @@ use std::thread;
 use std::thread::Threads;
 
 // By each of the two threads that make them.
-const REQUESTS: u32 = 100_000;
+const REQUESTS: u32 = 500_000;
 
 // Puts a ticket at the back of the queue, as soon as there is room.
 fn send<R: Wait>(rt: &R, shop: &Shop<'_>, caller: &mut Caller, ticket: u32)
