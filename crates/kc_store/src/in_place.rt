@@ -56,4 +56,10 @@ impl Store {
         note_worn(&mut caller.worn, fate);
         fate
     }
+
+    /// Wakes whom steps have signalled.
+    #[inline(always)]
+    pub fn wake(&self, wakes: Wakes) {
+        self.table.wake(wakes);
+    }
 }

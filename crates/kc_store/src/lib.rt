@@ -31,7 +31,7 @@ pub use notes::{HoldsCaller, Note, Past};
 pub use reading::ReadBusy;
 pub use store::{Caller, Store};
 pub use values::{Outcome, Try, Wear};
-pub use verdict::{Answered, Fate, Verdict};
+pub use verdict::{Answered, Fate, Verdict, answer_on, is_final};
 pub use viewing::{Glimpse, Sight, Viewed, viewed_on};
 pub use views_stand::views_stand_in_the_history;
 pub use waiting::{Hanging, hang_step, park, signalled};

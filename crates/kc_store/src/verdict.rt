@@ -73,7 +73,7 @@ pub(crate) fn verdict_on(fate: Fate, trial: &Trial) -> Verdict
 }
 
 /// Whether a commit that tries again answers it.
-pub(crate) fn is_final(fate: Fate, trial: &Trial) -> bool
+pub fn is_final(fate: Fate, trial: &Trial) -> bool
     ensures { result ≡ is_final (verdict_as fate (tried_of trial.now.went trial.now.reply)) }
 {
     match fate {
@@ -96,7 +96,7 @@ pub(crate) fn note_worn(worn: &mut bool, fate: Fate)
 /// The answer of a commit whose try is final. Each return writes it where it is wanted; an arm that is a `match` of its own
 /// would copy it, with room for sixteen items, once more.
 #[inline(always)]
-pub(crate) fn answer_on(fate: Fate, trial: &Trial) -> Answered
+pub fn answer_on(fate: Fate, trial: &Trial) -> Answered
     requires { is_final (verdict_as fate (tried_of trial.now.went trial.now.reply)) ≡ true }
     ensures { verdict_of result ≡ verdict_as fate (tried_of trial.now.went trial.now.reply) }
 {
