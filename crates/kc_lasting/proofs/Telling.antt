@@ -1,7 +1,7 @@
 -- What a handle is told.
 use Rattle.std.proofs.Common.{◌≡◌, ◌⊎◌, inl, inr, ℕ, Bool, true, false, ◌++◌, List, [], ◌∷◌, length, sym, ap, ◌∙◌, arith, subst}
 use Rattle.std.proofs.lemmas.List.{length-append}
-use Rattle.kc_lasting.specs.Told.{AddsNoPuts, Counts, CutAway, GoesOver, Judged, Moves, ReadsSo, Standing, ToldInVain, ToldSo, ViewedInVain, ViewedSo, ends_with, is_worn_verdict}
+use Rattle.kc_lasting.specs.Told.{AddsNoPuts, Counts, CutAway, GoesOver, Judged, Moves, ReadsSo, HandleView, ToldInVain, ToldSo, ViewedInVain, ViewedSo, ends_with, is_worn_verdict}
 use Rattle.kc_model.specs.declared.footprint.Entry.{Entry}
 use Rattle.kc_model.specs.declared.footprint.Footprint.{Footprint}
 use Rattle.kc_lasting.specs.Cuts.{LooksOnceAt}
@@ -26,7 +26,7 @@ worn_puts_nothing m verdict.TooLarge c f b own e t w = absurd (cc)
 worn_puts_nothing m (verdict.Lost loc version) c f b own e t w = absurd (cc)
 worn_puts_nothing m (verdict.Busy steps) c f b own e t w = absurd (cc)
 
-module _ (m : Meaning) (c : Standing) (f : Footprint) (b : CallerView) (d : Standing) (own : List Entry) (e : own ≡ c.caller.own) (r : Remembers c.caller b) where
+module _ (m : Meaning) (c : HandleView) (f : Footprint) (b : CallerView) (d : HandleView) (own : List Entry) (e : own ≡ c.caller.own) (r : Remembers c.caller b) where
   pub told_so : (a : Verdict) (j : Bool) → j ≡ true → IsTold m a c.caller f b → Judged (ends_with c d) j own b f d.caller → ToldSo m a c f d
   told_so a j is t counts = record { behind = b; told = t; remembers = r; counts = subst (λ (es : List Entry). Counts (ends_with c d) es b f d.caller) e (subst (λ (j : Bool). Judged (ends_with c d) j own b f d.caller) is counts) }
 
@@ -39,7 +39,7 @@ module _ (m : Meaning) (c : Standing) (f : Footprint) (b : CallerView) (d : Stan
   pub viewed_in_vain : (v : Viewed) (j : Bool) → j ≡ false → IsViewed m v c.caller f b → Judged (ends_with c d) j own b f d.caller → ViewedInVain m c f d
   viewed_in_vain v j is t cut = record { view = v; behind = b; viewed = t; cut = subst (λ (es : List Entry). CutAway (ends_with c d) es b f d.caller) e (subst (λ (j : Bool). Judged (ends_with c d) j own b f d.caller) is cut) }
 
-pub reads_so : (l : ℕ) (r : Seen) (c s : Standing) (b : CallerView) (d : Standing) (own : List Entry) → own ≡ s.caller.own → Moves c s → LooksOnceAt l s.caller.seat r b.seat → OnlyLearns s.caller b → (j : Bool) → j ≡ true → (f : Footprint) → Judged (ends_with s d) j own b f d.caller → ReadsSo l r c d
+pub reads_so : (l : ℕ) (r : Seen) (c s : HandleView) (b : CallerView) (d : HandleView) (own : List Entry) → own ≡ s.caller.own → Moves c s → LooksOnceAt l s.caller.seat r b.seat → OnlyLearns s.caller b → (j : Bool) → j ≡ true → (f : Footprint) → Judged (ends_with s d) j own b f d.caller → ReadsSo l r c d
 reads_so l r c s b d own e moves looks learns j is f judged = record {
   from = s;
   moves = moves;

@@ -11,7 +11,7 @@ use Rattle.kc_model.specs.declared.footprint.Entry.{Entry}
 use Rattle.kc_lasting.specs.declared.line.Line.{Line}
 use Rattle.kc_model.specs.declared.footprint.Footprint.{Footprint}
 use Rattle.kc_model.specs.declared.footprint.Seen.{Seen}
-use Rattle.kc_roll.specs.Fronts.{Begins}
+use Rattle.kc_roll.specs.Fronts.{IsBegunBy}
 use Rattle.kc_lasting.specs.Cuts.{LooksOnceAt}
 use Rattle.kc_store.specs.Knows.{IsTold, IsWithin, OnlyLearns, Remembers, entry_of}
 use Rattle.kc_store.specs.Verdicts.{is_final, verdict_as, verdict_of}
@@ -72,92 +72,92 @@ is_worn_verdict (verdict.Busy steps) = false
 -- ---- handles
 
 -- the number of its era, the eras up to it and maybe more, and its caller there
-pub record Standing : Type 0 where
+pub record HandleView : Type 0 where
   pub era : ℕ
   pub lines : List Line
   pub caller : CallerView
 
-abbrev pub standing : LastingCaller → Standing
-standing h = record { era = h.place.era; lines = h.place.page.seen; caller = h.client.caller }
+abbrev pub standing_of : LastingCaller → HandleView
+standing_of h = record { era = h.place.era; lines = h.place.page.seen; caller = h.client.caller }
 
 -- what it knew of the eras it knows, and it goes back to none
-pub record Moves (c d : Standing) : Type 0 where
-  pub lines : Begins c.lines d.lines
+pub record Moves (c d : HandleView) : Type 0 where
+  pub lines : IsBegunBy c.lines d.lines
   pub era : c.era ≤ d.era
 
 -- the history with which its era has ended, as it knows now
-abbrev pub ends_with : Standing → Standing → List Entry → Type 0
+abbrev pub ends_with : HandleView → HandleView → List Entry → Type 0
 ends_with c d = IsEnded d.lines c.era
 
 -- ---- what is told
 
 -- a call in c's era that was told so, and stands in the history
-pub record ToldSo (m : Meaning) (a : Verdict) (c : Standing) (f : Footprint) (d : Standing) : Type 0 where
+pub record ToldSo (m : Meaning) (a : Verdict) (c : HandleView) (f : Footprint) (d : HandleView) : Type 0 where
   pub behind : CallerView
   pub told : IsTold m a c.caller f behind
   pub remembers : Remembers c.caller behind
   pub counts : Counts (ends_with c d) c.caller.own behind f d.caller
 
 -- and one that doesn't
-pub record ToldInVain (m : Meaning) (c : Standing) (f : Footprint) (d : Standing) : Type 0 where
+pub record ToldInVain (m : Meaning) (c : HandleView) (f : Footprint) (d : HandleView) : Type 0 where
   pub answer : Verdict
   pub behind : CallerView
   pub told : IsTold m answer c.caller f behind
   pub remembers : Remembers c.caller behind
   pub cut : CutAway (ends_with c d) c.caller.own behind f d.caller
 
-abbrev pub AttemptsSo : Meaning → Attempt → Tried → Standing → Footprint → Standing → Type 0
+abbrev pub AttemptsSo : Meaning → Attempt → Tried → HandleView → Footprint → HandleView → Type 0
 AttemptsSo m (attempt.Came fate) t c f d = ToldSo m (verdict_as fate t) c f d
 AttemptsSo m attempt.Renewed t c f d = ToldInVain m c f d
 
-abbrev pub CommitsOnce : Meaning → Option Answered → Standing → Footprint → Standing → Type 0
+abbrev pub CommitsOnce : Meaning → Option Answered → HandleView → Footprint → HandleView → Type 0
 CommitsOnce m (Some a) c f d = ToldSo m (verdict_of a) c f d
 CommitsOnce m None c f d = ToldInVain m c f d
 
 -- calls of which nothing came, one after another: they put nothing, or were cut away
-pub data AllInVain (m : Meaning) (c : Standing) : Standing → Type 0 where
+pub data AllInVain (m : Meaning) (c : HandleView) : HandleView → Type 0 where
   none : AllInVain m c c
-  again : (x d : Standing) (f : Footprint) → AllInVain m c x → ToldInVain m x f d → AllInVain m c d
-  missed : (x d : Standing) (f : Footprint) (a : Verdict) → AllInVain m c x → is_final a ≡ false → ToldSo m a x f d → AllInVain m c d
+  again : (x d : HandleView) (f : Footprint) → AllInVain m c x → ToldInVain m x f d → AllInVain m c d
+  missed : (x d : HandleView) (f : Footprint) (a : Verdict) → AllInVain m c x → is_final a ≡ false → ToldSo m a x f d → AllInVain m c d
 
 -- and one that stands in the history
-pub record CommitsInSomeEra (m : Meaning) (a : Answered) (c : Standing) (f : Footprint) (d : Standing) : Type 0 where
-  pub last : Standing
+pub record CommitsInSomeEra (m : Meaning) (a : Answered) (c : HandleView) (f : Footprint) (d : HandleView) : Type 0 where
+  pub last : HandleView
   pub before : AllInVain m c last
   pub told : ToldSo m (verdict_of a) last f d
 
 -- a commit was told so, after some that were told Later
-pub record WaitsTill (m : Meaning) (a : Answered) (c : Standing) (f : Footprint) (d : Standing) : Type 0 where
-  pub from : Standing
+pub record WaitsTill (m : Meaning) (a : Answered) (c : HandleView) (f : Footprint) (d : HandleView) : Type 0 where
+  pub from : HandleView
   pub moves : Moves c from
   pub commits : CommitsInSomeEra m a from f d
 
 -- ---- views and reads
 
-pub record ViewedSo (m : Meaning) (v : Viewed) (c : Standing) (f : Footprint) (d : Standing) : Type 0 where
+pub record ViewedSo (m : Meaning) (v : Viewed) (c : HandleView) (f : Footprint) (d : HandleView) : Type 0 where
   pub behind : CallerView
   pub viewed : IsViewed m v c.caller f behind
   pub remembers : Remembers c.caller behind
   pub counts : Counts (ends_with c d) c.caller.own behind f d.caller
 
-pub record ViewedInVain (m : Meaning) (c : Standing) (f : Footprint) (d : Standing) : Type 0 where
+pub record ViewedInVain (m : Meaning) (c : HandleView) (f : Footprint) (d : HandleView) : Type 0 where
   pub view : Viewed
   pub behind : CallerView
   pub viewed : IsViewed m view c.caller f behind
   pub cut : CutAway (ends_with c d) c.caller.own behind f d.caller
 
-abbrev pub ViewsOnce : Meaning → Option Viewed → Standing → Footprint → Standing → Type 0
+abbrev pub ViewsOnce : Meaning → Option Viewed → HandleView → Footprint → HandleView → Type 0
 ViewsOnce m (Some v) c f d = ViewedSo m v c f d
 ViewsOnce m None c f d = ViewedInVain m c f d
 
-pub record ViewsAtLast (m : Meaning) (v : Viewed) (c : Standing) (f : Footprint) (d : Standing) : Type 0 where
-  pub from : Standing
+pub record ViewsAtLast (m : Meaning) (v : Viewed) (c : HandleView) (f : Footprint) (d : HandleView) : Type 0 where
+  pub from : HandleView
   pub moves : Moves c from
   pub viewed : ViewedSo m v from f d
 
 -- Of some store that the handle was in, no earlier than its own: a look there saw it, in a front of what the handle came to know, no older than what it knew; and this store goes on or was cut off behind that
-pub record ReadsSo (l : ℕ) (r : Seen) (c d : Standing) : Type 0 where
-  pub from : Standing
+pub record ReadsSo (l : ℕ) (r : Seen) (c d : HandleView) : Type 0 where
+  pub from : HandleView
   pub moves : Moves c from
   pub behind : CallerView
   pub looks : LooksOnceAt l from.caller.seat r behind.seat
@@ -165,12 +165,12 @@ pub record ReadsSo (l : ℕ) (r : Seen) (c d : Standing) : Type 0 where
   pub counts : OnlyLearns behind d.caller ⊎ GoesOver (ends_with from d) from.caller.own behind d.caller
 
 -- all that it had committed in its era stands in the history with which the era ended; or its era goes on
-abbrev pub Renews : Bool → Standing → Standing → Type 0
+abbrev pub Renews : Bool → HandleView → HandleView → Type 0
 Renews true c d = GoesOver (ends_with c d) c.caller.own c.caller d.caller
 Renews false c d = OnlyLearns c.caller d.caller
 
 -- its era has ended, and the history with which it did has all that it had committed there
-pub record EndsIn (lines : List Line) (h : Standing) : Type 0 where
+pub record EndsIn (lines : List Line) (h : HandleView) : Type 0 where
   pub history : List Entry
   pub ended : IsEnded lines h.era history
   pub all : ∥ IsWithin h.caller.own history ∥₁

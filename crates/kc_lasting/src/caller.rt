@@ -2,9 +2,9 @@
 
 ghost use Rattle.std.specs.Prelude.{◌≡◌, ◌≤◌, ◌<◌, Some, true};
 ghost use Rattle.std.specs.Arc.{arc_value};
-ghost use Rattle.kc_lasting.specs.Eras.{IsChain, store_at};
-ghost use Rattle.kc_lasting.specs.Told.{AttemptsSo, CommitsInSomeEra, EndsIn, Moves, ReadsSo, Renews, ViewsAtLast, ViewsOnce, WaitsTill, is_worn_verdict, standing};
-ghost use Rattle.kc_roll.specs.Fronts.{Begins};
+ghost use Rattle.kc_lasting.specs.Eras.{AreEras, store_at};
+ghost use Rattle.kc_lasting.specs.Told.{AttemptsSo, CommitsInSomeEra, EndsIn, Moves, ReadsSo, Renews, ViewsAtLast, ViewsOnce, WaitsTill, is_worn_verdict, standing_of};
+ghost use Rattle.kc_roll.specs.Fronts.{IsBegunBy};
 ghost use Rattle.kc_store.specs.Verdicts.{verdict_as, verdict_of};
 ghost use Rattle.kc_xt.specs.Commit.{tried_of};
 ghost use Rattle.kc_xt.specs.Meaning.{limited};
@@ -35,8 +35,8 @@ pub enum Attempt {
 impl LastingCaller {
     /// What contracts see of a handle: it has seen a chain of eras, and its caller is of the store of its own.
     pub fn shows(&self)
-        ensures chain { ∥ IsChain (standing self.now).lines ∥₁ }
-        ensures at { store_at (standing self.now).lines (standing self.now).era ≡ Some (standing self.now).caller.of }
+        ensures chain { ∥ AreEras (standing_of self.now).lines ∥₁ }
+        ensures at { store_at (standing_of self.now).lines (standing_of self.now).era ≡ Some (standing_of self.now).caller.of }
         ensures seen { self.now.client.seen.value.own ≡ self.now.client.caller.own }
     {
         let _place = &self.place;
@@ -44,7 +44,7 @@ impl LastingCaller {
 
     /// How many eras have ended before its own.
     pub fn era(&self) -> u64
-        ensures { result ≡ (standing self.now).era }
+        ensures { result ≡ (standing_of self.now).era }
     {
         self.place.era
     }
@@ -69,8 +69,8 @@ impl LastingCaller {
     ) -> Attempt
         requires fit { T.is_fit transaction.now }
         requires within { T.end transaction.now ≤ self.old.client.locations }
-        ensures told { AttemptsSo (limited (T.most transaction.now) (T.meaning transaction.now)) result (tried_of trial.new.went trial.new.reply) (standing self.old) footprint.new (standing self.new) }
-        ensures moves { Moves (standing self.old) (standing self.new) }
+        ensures told { AttemptsSo (limited (T.most transaction.now) (T.meaning transaction.now)) result (tried_of trial.new.went trial.new.reply) (standing_of self.old) footprint.new (standing_of self.new) }
+        ensures moves { Moves (standing_of self.old) (standing_of self.new) }
         ensures size { self.new.client.locations ≡ self.old.client.locations }
     {
         let LastingCaller {
@@ -96,8 +96,8 @@ impl LastingCaller {
     ) -> Answered
         requires fit { T.is_fit transaction.now }
         requires within { T.end transaction.now ≤ self.old.client.locations }
-        ensures told { CommitsInSomeEra (limited (T.most transaction.now) (T.meaning transaction.now)) result (standing self.old) footprint.new (standing self.new) }
-        ensures moves { Moves (standing self.old) (standing self.new) }
+        ensures told { CommitsInSomeEra (limited (T.most transaction.now) (T.meaning transaction.now)) result (standing_of self.old) footprint.new (standing_of self.new) }
+        ensures moves { Moves (standing_of self.old) (standing_of self.new) }
         ensures size { self.new.client.locations ≡ self.old.client.locations }
     {
         let mut trial = Trial::new();
@@ -125,8 +125,8 @@ impl LastingCaller {
     ) -> Attempt
         requires fit { T.is_fit transaction.now }
         requires within { T.end transaction.now ≤ self.old.client.locations }
-        ensures told { AttemptsSo (limited (T.most transaction.now) (T.meaning transaction.now)) result (tried_of trial.new.went trial.new.reply) (standing self.old) footprint.new (standing self.new) }
-        ensures moves { Moves (standing self.old) (standing self.new) }
+        ensures told { AttemptsSo (limited (T.most transaction.now) (T.meaning transaction.now)) result (tried_of trial.new.went trial.new.reply) (standing_of self.old) footprint.new (standing_of self.new) }
+        ensures moves { Moves (standing_of self.old) (standing_of self.new) }
         ensures size { self.new.client.locations ≡ self.old.client.locations }
     {
         let LastingCaller {
@@ -143,12 +143,12 @@ impl LastingCaller {
         }
     }
 
-    /// Begins a new era, where the last one is the handle's, and goes over to the last one. Others' commits wait meanwhile, so a quiet
+    /// IsBegunBy a new era, where the last one is the handle's, and goes over to the last one. Others' commits wait meanwhile, so a quiet
     /// moment is best. False: there was no memory.
     pub fn renew<R: Wait>(&mut self, rt: &R) -> bool
-        ensures renews { Renews result (standing self.old) (standing self.new) }
+        ensures renews { Renews result (standing_of self.old) (standing_of self.new) }
         ensures roll { (arc_value self.new.shared).roll ≡ (arc_value self.old.shared).roll }
-        ensures moves { Moves (standing self.old) (standing self.new) }
+        ensures moves { Moves (standing_of self.old) (standing_of self.new) }
         ensures size { self.new.client.locations ≡ self.old.client.locations }
     {
         let LastingCaller {
@@ -167,8 +167,8 @@ impl LastingCaller {
     /// this handle knows now. False: there was no memory.
     pub fn take_in<R: Wait>(&mut self, rt: &R, other: LastingCaller) -> bool
         requires { (arc_value other.shared).roll ≡ (arc_value self.old.shared).roll }
-        ensures ends { result ≡ true → EndsIn (standing self.new).lines (standing other) }
-        ensures moves { Moves (standing self.old) (standing self.new) }
+        ensures ends { result ≡ true → EndsIn (standing_of self.new).lines (standing_of other) }
+        ensures moves { Moves (standing_of self.old) (standing_of self.new) }
         ensures kept { (self.new.shared ≡ self.old.shared) × (self.new.client ≡ self.old.client) }
     {
         let mut other = other;
@@ -187,9 +187,9 @@ impl LastingCaller {
     // It has seen now what either had seen.
     fn see(&mut self, page: Page<Line>)
         requires of { page.of ≡ (arc_value self.old.shared).roll }
-        requires chain { ∥ IsChain page.seen ∥₁ }
-        ensures sees { Begins page.seen (standing self.new).lines }
-        ensures moves { Moves (standing self.old) (standing self.new) }
+        requires chain { ∥ AreEras page.seen ∥₁ }
+        ensures sees { IsBegunBy page.seen (standing_of self.new).lines }
+        ensures moves { Moves (standing_of self.old) (standing_of self.new) }
         ensures kept { (self.new.shared ≡ self.old.shared) × (self.new.client ≡ self.old.client) }
     {
         self.shared.roll.join(&mut self.place.page, page);
@@ -204,8 +204,8 @@ impl LastingCaller {
     ) -> Answered
         requires fit { T.is_fit transaction.now }
         requires within { T.end transaction.now ≤ self.old.client.locations }
-        ensures told { WaitsTill (limited (T.most transaction.now) (T.meaning transaction.now)) result (standing self.old) footprint.new (standing self.new) }
-        ensures moves { Moves (standing self.old) (standing self.new) }
+        ensures told { WaitsTill (limited (T.most transaction.now) (T.meaning transaction.now)) result (standing_of self.old) footprint.new (standing_of self.new) }
+        ensures moves { Moves (standing_of self.old) (standing_of self.new) }
         ensures size { self.new.client.locations ≡ self.old.client.locations }
     {
         'tries: for _ in rt.forever() {
@@ -221,7 +221,7 @@ impl LastingCaller {
 
     // Hangs on what was read until something of it may have changed, or the era ends.
     fn wait<R: Wait>(&mut self, rt: &R, footprint: &Footprint)
-        ensures moves { Moves (standing self.old) (standing self.new) }
+        ensures moves { Moves (standing_of self.old) (standing_of self.new) }
         ensures size { self.new.client.locations ≡ self.old.client.locations }
     {
         self.client.wait(rt, footprint);
@@ -236,8 +236,8 @@ impl LastingCaller {
     ) -> Viewed
         requires fit { T.is_fit transaction.now }
         requires within { T.end transaction.now ≤ self.old.client.locations }
-        ensures viewed { ViewsAtLast (limited (T.most transaction.now) (T.meaning transaction.now)) result (standing self.old) footprint.new (standing self.new) }
-        ensures moves { Moves (standing self.old) (standing self.new) }
+        ensures viewed { ViewsAtLast (limited (T.most transaction.now) (T.meaning transaction.now)) result (standing_of self.old) footprint.new (standing_of self.new) }
+        ensures moves { Moves (standing_of self.old) (standing_of self.new) }
         ensures size { self.new.client.locations ≡ self.old.client.locations }
     {
         'tries: for _ in rt.forever() {
@@ -257,8 +257,8 @@ impl LastingCaller {
     ) -> Option<Viewed>
         requires fit { T.is_fit transaction.now }
         requires within { T.end transaction.now ≤ self.old.client.locations }
-        ensures viewed { ViewsOnce (limited (T.most transaction.now) (T.meaning transaction.now)) result (standing self.old) footprint.new (standing self.new) }
-        ensures moves { Moves (standing self.old) (standing self.new) }
+        ensures viewed { ViewsOnce (limited (T.most transaction.now) (T.meaning transaction.now)) result (standing_of self.old) footprint.new (standing_of self.new) }
+        ensures moves { Moves (standing_of self.old) (standing_of self.new) }
         ensures size { self.new.client.locations ≡ self.old.client.locations }
     {
         let LastingCaller {
@@ -276,8 +276,8 @@ impl LastingCaller {
     /// What stands at a location, with its version in an era of the handle, the last in which it looked.
     pub fn read<R: Wait>(&mut self, rt: &R, at: Loc) -> Seen
         requires within { at.0 < self.old.client.locations }
-        ensures reads { ReadsSo at.0 result (standing self.old) (standing self.new) }
-        ensures moves { Moves (standing self.old) (standing self.new) }
+        ensures reads { ReadsSo at.0 result (standing_of self.old) (standing_of self.new) }
+        ensures moves { Moves (standing_of self.old) (standing_of self.new) }
         ensures size { self.new.client.locations ≡ self.old.client.locations }
     {
         'tries: for _ in rt.forever() {

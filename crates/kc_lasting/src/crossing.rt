@@ -1,10 +1,10 @@
 //! What a handle does behind each call on its store: it looks whether its era goes on, and else goes over to the last one.
 
 ghost use Rattle.std.specs.Prelude.{◌≡◌, ◌<◌, None, Some, [], true, false};
-ghost use Rattle.kc_lasting.specs.Eras.{IsChain, IsEnded, store_at};
-ghost use Rattle.kc_lasting.specs.Kept.{ErasKept, IsPlaced, MovesOn};
+ghost use Rattle.kc_lasting.specs.Eras.{AreEras, IsEnded, store_at};
+ghost use Rattle.kc_lasting.specs.Kept.{ErasKept, HasItsPlace, MovesOn};
 ghost use Rattle.kc_lasting.specs.Told.{AddsNoPuts, Counts, Crosses, CrossesOnce, Judged};
-ghost use Rattle.kc_roll.specs.Fronts.{Begins};
+ghost use Rattle.kc_roll.specs.Fronts.{IsBegunBy};
 
 use crate::client::{Client, Fresh};
 use crate::eras::Eras;
@@ -41,10 +41,10 @@ pub(crate) fn stands<R: Wait>(
     worn: bool,
 ) -> bool
     requires worn { worn ≡ true → AddsNoPuts client.old.seen.value.own client.old.caller footprint.now }
-    requires placed { IsPlaced shared.now.roll client.old.caller.of place.old }
+    requires placed { HasItsPlace shared.now.roll client.old.caller.of place.old }
     ensures judged { Judged (IsEnded place.new.page.seen place.old.era) result client.old.seen.value.own client.old.caller footprint.now client.new.caller }
     ensures all { client.new.seen.value.own ≡ client.new.caller.own }
-    ensures placed { IsPlaced shared.now.roll client.new.caller.of place.new }
+    ensures placed { HasItsPlace shared.now.roll client.new.caller.of place.new }
     ensures moves { MovesOn place.old place.new }
     ensures size { client.new.locations ≡ client.old.locations }
 {
@@ -78,10 +78,10 @@ pub(crate) fn cross<R: Wait>(
     footprint: &Footprint,
     begins: bool,
 ) -> Crossing
-    requires placed { IsPlaced shared.now.roll client.old.caller.of place.old }
+    requires placed { HasItsPlace shared.now.roll client.old.caller.of place.old }
     ensures crosses { Crosses (IsEnded place.new.page.seen place.old.era) result client.old.seen.value.own client.old.caller footprint.now client.new.caller }
     ensures all { client.new.seen.value.own ≡ client.new.caller.own }
-    ensures placed { IsPlaced shared.now.roll client.new.caller.of place.new }
+    ensures placed { HasItsPlace shared.now.roll client.new.caller.of place.new }
     ensures moves { MovesOn place.old place.new }
     ensures size { client.new.locations ≡ client.old.locations }
 {
@@ -102,10 +102,10 @@ fn cross_locked<R: Wait>(
     footprint: &Footprint,
     begins: bool,
 ) -> Option<Crossing>
-    requires placed { IsPlaced shared.now.roll client.old.caller.of place.old }
+    requires placed { HasItsPlace shared.now.roll client.old.caller.of place.old }
     ensures crosses { CrossesOnce (IsEnded place.new.page.seen place.old.era) result client.old.caller client.old.seen.value footprint.now client.new.caller client.new.seen.value }
     ensures stays { result ≡ None → place.new.era ≡ place.old.era }
-    ensures placed { IsPlaced shared.now.roll client.new.caller.of place.new }
+    ensures placed { HasItsPlace shared.now.roll client.new.caller.of place.new }
     ensures moves { MovesOn place.old place.new }
     ensures size { client.new.locations ≡ client.old.locations }
 {
@@ -129,11 +129,11 @@ fn cross_once<R: Wait>(
     begins: bool,
 ) -> Option<Crossing>
     requires kept { ErasKept shared.now.roll eras.old }
-    requires placed { IsPlaced shared.now.roll client.old.caller.of place.old }
+    requires placed { HasItsPlace shared.now.roll client.old.caller.of place.old }
     ensures kept { ErasKept shared.now.roll eras.new }
     ensures crosses { CrossesOnce (IsEnded place.new.page.seen place.old.era) result client.old.caller client.old.seen.value footprint.now client.new.caller client.new.seen.value }
     ensures stays { result ≡ None → place.new.era ≡ place.old.era }
-    ensures placed { IsPlaced shared.now.roll client.new.caller.of place.new }
+    ensures placed { HasItsPlace shared.now.roll client.new.caller.of place.new }
     ensures moves { MovesOn place.old place.new }
     ensures size { client.new.locations ≡ client.old.locations }
 {
@@ -162,7 +162,7 @@ fn cross_once<R: Wait>(
     }
 }
 
-// Begins a new era if that is wanted, where the last one is the handle's.
+// IsBegunBy a new era if that is wanted, where the last one is the handle's.
 fn renew_if_last<R: Wait>(rt: &R, shared: &Shared, eras: &mut Eras, place: &mut Place, begins: bool)
     requires kept { ErasKept shared.now.roll eras.old }
     ensures kept { ErasKept shared.now.roll eras.new }
@@ -183,11 +183,11 @@ fn renew_if_last<R: Wait>(rt: &R, shared: &Shared, eras: &mut Eras, place: &mut 
 fn look_up(roll: &Roll<Line>, eras: &mut Eras, place: &mut Place)
     requires kept { ErasKept roll.now eras.old }
     requires of { place.old.page.of ≡ roll.now }
-    requires chain { ∥ IsChain place.old.page.seen ∥₁ }
+    requires chain { ∥ AreEras place.old.page.seen ∥₁ }
     ensures eras { eras.new ≡ eras.old }
     ensures of { place.new.page.of ≡ place.old.page.of }
-    ensures chain { ∥ IsChain place.new.page.seen ∥₁ }
-    ensures sees { Begins place.old.page.seen place.new.page.seen × Begins eras.old.page.seen place.new.page.seen }
+    ensures chain { ∥ AreEras place.new.page.seen ∥₁ }
+    ensures sees { IsBegunBy place.old.page.seen place.new.page.seen × IsBegunBy eras.old.page.seen place.new.page.seen }
     ensures era { place.new.era ≡ place.old.era }
 {
     let page = roll.again(&mut eras.page);
@@ -197,7 +197,7 @@ fn look_up(roll: &Roll<Line>, eras: &mut Eras, place: &mut Place)
 // Takes the handle's place in the last era.
 fn go_over(eras: &mut Eras, client: &mut Client, place: &mut Place) -> bool
     requires kept { ErasKept eras.old.page.of eras.old }
-    requires sees { Begins eras.old.page.seen place.old.page.seen }
+    requires sees { IsBegunBy eras.old.page.seen place.old.page.seen }
     requires later { place.old.era < eras.old.number }
     ensures kept { ErasKept eras.old.page.of eras.new }
     ensures new { result ≡ true → (client.new.caller.own ≡ []) × (client.new.seen.value ≡ client.new.caller) }

@@ -2,7 +2,7 @@
 
 ghost use Rattle.std.specs.Prelude.{◌≡◌, Some};
 ghost use Rattle.std.specs.Arc.{arc_value};
-ghost use Rattle.kc_lasting.specs.Eras.{IsChain, store_at};
+ghost use Rattle.kc_lasting.specs.Eras.{AreEras, store_at};
 
 use crate::client::Client;
 use crate::shared::{Place, Shared};
@@ -19,5 +19,5 @@ pub struct LastingCaller {
     ghost all: { client.seen.value.own ≡ client.caller.own },
     ghost of: { place.page.of ≡ (arc_value shared).roll },
     ghost at: { store_at place.page.seen place.era ≡ Some client.caller.of },
-    ghost chain: { ∥ IsChain place.page.seen ∥₁ },
+    ghost chain: { ∥ AreEras place.page.seen ∥₁ },
 }

@@ -2,16 +2,16 @@
 
 ghost use Rattle.std.specs.Prelude.{◌≡◌, ◌<◌, ◌≤◌, ◌+◌, ◌-◌, ◌^◌, ◌++◌, ◌≢◌, ℕ, List, Some, [], ◌∷◌, length, map, true, false, All, IfOk, IfSome};
 ghost use Rattle.kc_lasting.specs.Cuts.{IsCut};
-ghost use Rattle.kc_lasting.specs.Eras.{OpensOn, first_line, next_line, store_at};
+ghost use Rattle.kc_lasting.specs.Eras.{OpensOn, first_line, line_after, store_at};
 ghost use Rattle.kc_lasting.specs.Ends.{EndsEra, IsEraEnd};
-ghost use Rattle.kc_lasting.specs.Kept.{ErasKept, IsNext, MayBeFresh};
+ghost use Rattle.kc_lasting.specs.Kept.{ErasKept, IsNextEra, MayBeFresh};
 ghost use Rattle.kc_lasting.specs.Opening.{IsFirstClient};
 ghost use Rattle.kc_lasting.specs.Settled.{IsSettled};
 ghost use Rattle.kc_lasting.specs.declared.settling.Side.TheVariants as side;
 ghost use Rattle.kc_lasting.specs.Eras.{IsEnded};
 ghost use Rattle.kc_model.specs.declared.footprint.Seen.{Seen as SeenView};
 ghost use Rattle.kc_model.specs.declared.plain_store.TheConstants.{MOST_LOCATIONS};
-ghost use Rattle.kc_roll.specs.Fronts.{Begins};
+ghost use Rattle.kc_roll.specs.Fronts.{IsBegunBy};
 
 use crate::client::{Client, Fresh};
 use crate::cutting::cut;
@@ -77,7 +77,7 @@ impl Eras {
         footprint: &Footprint,
     ) -> Side
         requires kept { ErasKept self.old.page.of self.old }
-        requires sees { Begins self.old.page.seen place.now.page.seen }
+        requires sees { IsBegunBy self.old.page.seen place.now.page.seen }
         requires at { store_at place.now.page.seen place.now.era ≡ Some client.old.caller.of }
         ensures kept { ErasKept self.old.page.of self.new }
         ensures page { (self.new.page ≡ self.old.page) × (self.new.number ≡ self.old.number) × (self.new.keeper ≡ self.old.keeper) }
@@ -127,7 +127,7 @@ impl Eras {
     // Goes on in the new store. False where the roll isn't as the eras have it, which never comes.
     fn go_on(&mut self, roll: &Roll<Line>, next: Next) -> bool
         requires kept { ErasKept roll.now self.old }
-        requires next { IsNext self.old.keeper.caller.of next }
+        requires next { IsNextEra self.old.keeper.caller.of next }
         ensures kept { ErasKept roll.now self.new }
     {
         if self.number >= u64::MAX - 2 {
@@ -163,7 +163,7 @@ impl Eras {
     fn next<R: Wait>(&mut self, rt: &R, alloc: Global, callers: u32) -> Result<Next, OpenError>
         requires kept { ErasKept self.old.page.of self.old }
         ensures kept { ErasKept self.old.page.of self.new }
-        ensures next { IfOk result (λ x. IsNext self.new.keeper.caller.of x) }
+        ensures next { IfOk result (λ x. IsNextEra self.new.keeper.caller.of x) }
         ensures page { self.new.page ≡ self.old.page }
     {
         self.keeper.next(rt, alloc, callers)
@@ -234,9 +234,9 @@ fn write_next<N: Writes<Line>>(
     _keeper: &Client,
 ) -> bool
     requires page { (page.old.of ≡ roll.now) × (length page.old.seen ≡ count) × (count < 2 ^ 64 - 1) }
-    requires next { N.next ≡ next_line _first.now _keeper.now.caller.of }
+    requires next { N.next ≡ line_after _first.now _keeper.now.caller.of }
     ensures of { page.new.of ≡ page.old.of }
-    ensures written { result ≡ true → page.new.seen ≡ page.old.seen ++ next_line _first.now _keeper.now.caller.of ∷ [] }
+    ensures written { result ≡ true → page.new.seen ≡ page.old.seen ++ line_after _first.now _keeper.now.caller.of ∷ [] }
     ensures missed { result ≡ false → page.new.seen ≡ page.old.seen }
 {
     roll.write::<N>(page, count)
@@ -256,7 +256,7 @@ impl Client {
     // Cuts its era off, and opens a store on what stood at the cut.
     fn next<R: Wait>(&mut self, rt: &R, alloc: Global, callers: u32) -> Result<Next, OpenError>
         ensures of { self.new.caller.of ≡ self.old.caller.of }
-        ensures next { IfOk result (λ x. IsNext self.old.caller.of x) }
+        ensures next { IfOk result (λ x. IsNextEra self.old.caller.of x) }
     {
         let locations = self.locations as usize + 1;
         let mut cells = vec![in alloc; Seen::default(); locations]?;

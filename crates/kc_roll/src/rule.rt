@@ -58,9 +58,9 @@ impl<E> Split<View<E>> for Copies {
 pub struct Longer;
 
 impl<E> Join<View<E>> for Longer {
-    ghost use Rattle.kc_roll.specs.Fronts.{nothing_seen, joined};
+    ghost use Rattle.kc_roll.specs.Fronts.{nothing_seen, both_seen};
 
-    ghost both = { joined };
+    ghost both = { both_seen };
 
     ghost spent = { nothing_seen };
 }

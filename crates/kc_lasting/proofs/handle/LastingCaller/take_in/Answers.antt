@@ -1,6 +1,6 @@
 use Rattle.std.proofs.Common.{◌≡◌, ◌∙◌, true, rules, subst}
 use Rattle.kc_lasting.proofs.Moving.{ends_in}
-use Rattle.kc_lasting.specs.Told.{Renews, standing}
+use Rattle.kc_lasting.specs.Told.{Renews, standing_of}
 use Rattle.std.specs.Prelude.{Bool}
 use Rattle.kc_lasting.proofs.handle.LastingCaller.take_in.Goals as goal
 
@@ -10,4 +10,4 @@ see-requires-clause-of g c = c.renew.new.self.of ∙ c.renew.ensures.roll ∙ c.
 pub returns-clause-ends : goal.returns-clause-ends
 returns-clause-ends g c = λ _.
     let is : c.renew.result ≡ true = search rules in
-    ends_in (standing c.see.new.self).lines (standing c.args.other) (standing c.renew.new.self) (subst (λ (b : Bool). Renews b (standing c.args.other) (standing c.renew.new.self)) is c.renew.ensures.renews) c.see.ensures.sees
+    ends_in (standing_of c.see.new.self).lines (standing_of c.args.other) (standing_of c.renew.new.self) (subst (λ (b : Bool). Renews b (standing_of c.args.other) (standing_of c.renew.new.self)) is c.renew.ensures.renews) c.see.ensures.sees
