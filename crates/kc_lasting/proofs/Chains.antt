@@ -6,7 +6,7 @@ use Rattle.kc_lasting.specs.Eras.{Follow, AreEras, IsEnded, LeavesValues, OpensO
 use Rattle.kc_lasting.specs.declared.line.End.{End}
 use Rattle.kc_lasting.specs.declared.line.Line.{Line}
 use Rattle.kc_model.specs.declared.footprint.Entry.{Entry}
-use Rattle.kc_roll.specs.Fronts.{IsBegunBy}
+use Rattle.kc_roll.specs.Fronts.{StandsAtFront}
 use Rattle.kc_store.specs.Views.{NoteView, StoreView}
 
 store_front : (a b : List Line) (k : ℕ) (z : StoreView) → store_at a k ≡ Some z → store_at (a ++ b) k ≡ Some z
@@ -19,10 +19,10 @@ ended_front [] b k n e = absurd (cc)
 ended_front (l ∷ a) b zero n e = e
 ended_front (l ∷ a) b (suc k) n e = ended_front a b k n e
 
-pub store_on : (a b : List Line) → IsBegunBy a b → (k : ℕ) (z : StoreView) → store_at a k ≡ Some z → store_at b k ≡ Some z
+pub store_on : (a b : List Line) → StandsAtFront a b → (k : ℕ) (z : StoreView) → store_at a k ≡ Some z → store_at b k ≡ Some z
 store_on a b (r, is) k z e = subst (λ (ls : List Line). store_at ls k ≡ Some z) (sym is) (store_front a r k z e)
 
-pub ended_on : (a b : List Line) → IsBegunBy a b → (k : ℕ) (n : NoteView) → ended_at a k ≡ Some n → ended_at b k ≡ Some n
+pub ended_on : (a b : List Line) → StandsAtFront a b → (k : ℕ) (n : NoteView) → ended_at a k ≡ Some n → ended_at b k ≡ Some n
 ended_on a b (r, is) k n e = subst (λ (ls : List Line). ended_at ls k ≡ Some n) (sym is) (ended_front a r k n e)
 
 pub same_store : (o : Option StoreView) (z y : StoreView) → o ≡ Some z → o ≡ Some y → z ≡ y
@@ -58,7 +58,7 @@ store_here ls k n z e = store_last ls (line_after n z) k e
 pub ended_here : (ls : List Line) (k : ℕ) (n : NoteView) (z : StoreView) → length ls ≡ k → ended_at (ls ++ line_after n z ∷ []) k ≡ Some n
 ended_here ls k n z e = ended_last ls (line_after n z) k e
 
-pub may_end_on : (a b : List Line) → IsBegunBy a b → (o : Option End) → MayEnd a o → MayEnd b o
+pub may_end_on : (a b : List Line) → StandsAtFront a b → (o : Option End) → MayEnd a o → MayEnd b o
 may_end_on a b p None m = tt
 may_end_on a b p (Some x) m = record {
   store = m.store;
@@ -68,15 +68,15 @@ may_end_on a b p (Some x) m = record {
   end = m.end;
 }
 
-pub all_on : (a b : List Line) → IsBegunBy a b → (xs : List (Option End)) → All (MayEnd a) xs → All (MayEnd b) xs
+pub all_on : (a b : List Line) → StandsAtFront a b → (xs : List (Option End)) → All (MayEnd a) xs → All (MayEnd b) xs
 all_on a b p xs all i d lt = may_end_on a b p _ (all i d lt)
 
 -- ---- how an era ended, as a handle of it knows
 
-pub store_is : (lines seen : List Line) (x : End) (k : ℕ) (z : StoreView) → (m : EndsEra lines x) → x.era ≡ k → IsBegunBy lines seen → store_at seen k ≡ Some z → m.store ≡ z
+pub store_is : (lines seen : List Line) (x : End) (k : ℕ) (z : StoreView) → (m : EndsEra lines x) → x.era ≡ k → StandsAtFront lines seen → store_at seen k ≡ Some z → m.store ≡ z
 store_is lines seen x k z m e p at = same_store (store_at seen k) m.store z (store_on lines seen p k m.store (subst (λ (j : ℕ). store_at lines j ≡ Some m.store) e m.at)) at
 
-pub is_ended : (lines seen : List Line) (x : End) (k : ℕ) → (m : EndsEra lines x) → x.era ≡ k → IsBegunBy lines seen → IsEnded seen k m.note.known
+pub is_ended : (lines seen : List Line) (x : End) (k : ℕ) → (m : EndsEra lines x) → x.era ≡ k → StandsAtFront lines seen → IsEnded seen k m.note.known
 is_ended lines seen x k m e p = record { note = m.note; ended = ended_on lines seen p (suc k) m.note (subst (λ (j : ℕ). ended_at lines (suc j) ≡ Some m.note) e m.ended); known = refl }
 
 pub ends_again : (lines : List Line) (x y : End) (z : StoreView) → (m : EndsEra lines x) → y.era ≡ x.era → m.store ≡ z → ((part : List Entry) → IsEraEnd z x.note part x.versions.items → IsEraEnd z y.note part y.versions.items) → EndsEra lines y

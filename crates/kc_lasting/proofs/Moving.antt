@@ -13,13 +13,13 @@ use Rattle.kc_lasting.specs.declared.line.Line.{Line}
 use Rattle.kc_lasting.specs.declared.shared.Place.{Place}
 use Rattle.kc_model.specs.declared.footprint.Entry.{Entry}
 use Rattle.kc_model.specs.declared.footprint.Footprint.{Footprint}
-use Rattle.kc_roll.specs.Fronts.{IsBegunBy, PageView}
+use Rattle.kc_roll.specs.Fronts.{StandsAtFront, PageView}
 use Rattle.kc_store.specs.Views.{CallerView, StoreView}
 
-pub begins_first : {A : Type 0} (xs : List A) → IsBegunBy xs xs
+pub begins_first : {A : Type 0} (xs : List A) → StandsAtFront xs xs
 begins_first xs = ([], sym (append-nil xs))
 
-pub begins_on : {A : Type 0} (xs ys zs : List A) → IsBegunBy xs ys → IsBegunBy ys zs → IsBegunBy xs zs
+pub begins_on : {A : Type 0} (xs ys zs : List A) → StandsAtFront xs ys → StandsAtFront ys zs → StandsAtFront xs zs
 begins_on {A} xs ys zs (r, e) (s, q) = (r ++ s, q ∙ ap (λ (l : List A). l ++ s) e ∙ append_assoc xs r s)
 
 pub moves_first : (c : HandleView) → Moves c c
@@ -35,10 +35,10 @@ pub places_on : (p q r : Place) → MovesOn p q → MovesOn q r → MovesOn p r
 places_on p q r m n = record { lines = begins_on p.page.seen q.page.seen r.page.seen m.lines n.lines; era = (let a = m.era in let b = n.era in omega (arith, a, b)) }
 
 -- it looked up the roll
-pub looked_up : (roll : TableId) (z : StoreView) (p q r : Place) → HasItsPlace roll z p → q.page ≡ p.page → q.era ≡ p.era → r.page.of ≡ q.page.of → ∥ AreEras r.page.seen ∥₁ → IsBegunBy q.page.seen r.page.seen → r.era ≡ q.era → HasItsPlace roll z r
+pub looked_up : (roll : TableId) (z : StoreView) (p q r : Place) → HasItsPlace roll z p → q.page ≡ p.page → q.era ≡ p.era → r.page.of ≡ q.page.of → ∥ AreEras r.page.seen ∥₁ → StandsAtFront q.page.seen r.page.seen → r.era ≡ q.era → HasItsPlace roll z r
 looked_up roll z p q r placed page era of chain sees era' = record {
   of = of ∙ ap (λ (x : PageView Line). x.of) page ∙ placed.of;
-  at = subst (λ (k : ℕ). store_at r.page.seen k ≡ Some z) (sym (era' ∙ era)) (store_on p.page.seen r.page.seen (subst (λ (x : PageView Line). IsBegunBy x.seen r.page.seen) page sees) p.era z placed.at);
+  at = subst (λ (k : ℕ). store_at r.page.seen k ≡ Some z) (sym (era' ∙ era)) (store_on p.page.seen r.page.seen (subst (λ (x : PageView Line). StandsAtFront x.seen r.page.seen) page sees) p.era z placed.at);
   chain = chain;
 }
 
@@ -86,7 +86,7 @@ settled_before a b j k c s w v d u f page era (part, known, l) n = (crosses_befo
 pub settled_behind : (a b : PageView Line) (j k : ℕ) (c s w v d u : CallerView) (f : Footprint) → b ≡ a → j ≡ k → IsSettled (IsEnded a.seen j) side.Behind c s f w v → (d.own ≡ []) × (u ≡ d) → CutAway (IsEnded b.seen k) s.own c f d × (u.own ≡ d.own)
 settled_behind a b j k c s w v d u f page era (part, known, l) n = (crosses_behind (IsEnded b.seen k) c s d f n.0 part (ended_there a b j k part page era known) l.1 l.2, ap (λ (x : CallerView). x.own) n.1)
 
-pub ends_in : (lines : List Line) (h d : HandleView) → GoesOver (ends_with h d) h.caller.own h.caller d.caller → IsBegunBy d.lines lines → EndsIn lines h
+pub ends_in : (lines : List Line) (h d : HandleView) → GoesOver (ends_with h d) h.caller.own h.caller d.caller → StandsAtFront d.lines lines → EndsIn lines h
 ends_in lines h d g sees = record {
   history = g.part;
   ended = record { note = g.there.note; ended = ended_on d.lines lines sees (suc h.era) g.there.note g.there.ended; known = g.there.known };

@@ -7,7 +7,7 @@ use Rattle.kc_lasting.specs.declared.client.Fresh.{Fresh}
 use Rattle.kc_lasting.specs.declared.eras.Eras.{Eras}
 use Rattle.kc_lasting.specs.declared.renewing.Next.{Next}
 use Rattle.kc_lasting.specs.declared.shared.Place.{Place}
-use Rattle.kc_roll.specs.Fronts.{IsBegunBy}
+use Rattle.kc_roll.specs.Fronts.{StandsAtFront}
 use Rattle.kc_store.specs.Views.{StoreView}
 
 -- it is of this store, if nobody has taken it
@@ -31,7 +31,7 @@ pub record HasItsPlace (roll : TableId) (z : StoreView) (p : Place) : Type 0 whe
   pub chain : ∥ AreEras p.page.seen ∥₁
 
 pub record MovesOn (p q : Place) : Type 0 where
-  pub lines : IsBegunBy p.page.seen q.page.seen
+  pub lines : StandsAtFront p.page.seen q.page.seen
   pub era : p.era ≤ q.era
 
 -- the store was cut off, and one was opened with what stood there

@@ -11,7 +11,7 @@ use Rattle.kc_model.specs.declared.footprint.Entry.{Entry}
 use Rattle.kc_lasting.specs.declared.line.Line.{Line}
 use Rattle.kc_model.specs.declared.footprint.Footprint.{Footprint}
 use Rattle.kc_model.specs.declared.footprint.Seen.{Seen}
-use Rattle.kc_roll.specs.Fronts.{IsBegunBy}
+use Rattle.kc_roll.specs.Fronts.{StandsAtFront}
 use Rattle.kc_lasting.specs.Cuts.{LooksOnceAt}
 use Rattle.kc_store.specs.Knows.{IsTold, IsWithin, OnlyLearns, Remembers, entry_of}
 use Rattle.kc_store.specs.Verdicts.{is_final, verdict_as, verdict_of}
@@ -82,7 +82,7 @@ standing_of h = record { era = h.place.era; lines = h.place.page.seen; caller = 
 
 -- what it knew of the eras it knows, and it goes back to none
 pub record Moves (c d : HandleView) : Type 0 where
-  pub lines : IsBegunBy c.lines d.lines
+  pub lines : StandsAtFront c.lines d.lines
   pub era : c.era ≤ d.era
 
 -- the history with which its era has ended, as it knows now

@@ -4,7 +4,7 @@ ghost use Rattle.std.specs.Prelude.{◌≡◌, ◌≤◌, ◌<◌, Some, true};
 ghost use Rattle.std.specs.Arc.{arc_value};
 ghost use Rattle.kc_lasting.specs.Eras.{AreEras, store_at};
 ghost use Rattle.kc_lasting.specs.Told.{AttemptsSo, CommitsInSomeEra, EndsIn, Moves, ReadsSo, Renews, ViewsAtLast, ViewsOnce, WaitsTill, is_worn_verdict, standing_of};
-ghost use Rattle.kc_roll.specs.Fronts.{IsBegunBy};
+ghost use Rattle.kc_roll.specs.Fronts.{StandsAtFront};
 ghost use Rattle.kc_store.specs.Verdicts.{verdict_as, verdict_of};
 ghost use Rattle.kc_xt.specs.Commit.{tried_of};
 ghost use Rattle.kc_xt.specs.Meaning.{limited};
@@ -143,7 +143,7 @@ impl LastingCaller {
         }
     }
 
-    /// IsBegunBy a new era, where the last one is the handle's, and goes over to the last one. Others' commits wait meanwhile, so a quiet
+    /// StandsAtFront a new era, where the last one is the handle's, and goes over to the last one. Others' commits wait meanwhile, so a quiet
     /// moment is best. False: there was no memory.
     pub fn renew<R: Wait>(&mut self, rt: &R) -> bool
         ensures renews { Renews result (standing_of self.old) (standing_of self.new) }
@@ -188,7 +188,7 @@ impl LastingCaller {
     fn see(&mut self, page: Page<Line>)
         requires of { page.of ≡ (arc_value self.old.shared).roll }
         requires chain { ∥ AreEras page.seen ∥₁ }
-        ensures sees { IsBegunBy page.seen (standing_of self.new).lines }
+        ensures sees { StandsAtFront page.seen (standing_of self.new).lines }
         ensures moves { Moves (standing_of self.old) (standing_of self.new) }
         ensures kept { (self.new.shared ≡ self.old.shared) × (self.new.client ≡ self.old.client) }
     {

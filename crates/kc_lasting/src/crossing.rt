@@ -4,7 +4,7 @@ ghost use Rattle.std.specs.Prelude.{◌≡◌, ◌<◌, None, Some, [], true, fa
 ghost use Rattle.kc_lasting.specs.Eras.{AreEras, IsEnded, store_at};
 ghost use Rattle.kc_lasting.specs.Kept.{ErasKept, HasItsPlace, MovesOn};
 ghost use Rattle.kc_lasting.specs.Told.{AddsNoPuts, Counts, Crosses, CrossesOnce, Judged};
-ghost use Rattle.kc_roll.specs.Fronts.{IsBegunBy};
+ghost use Rattle.kc_roll.specs.Fronts.{StandsAtFront};
 
 use crate::client::{Client, Fresh};
 use crate::eras::Eras;
@@ -162,7 +162,7 @@ fn cross_once<R: Wait>(
     }
 }
 
-// IsBegunBy a new era if that is wanted, where the last one is the handle's.
+// StandsAtFront a new era if that is wanted, where the last one is the handle's.
 fn renew_if_last<R: Wait>(rt: &R, shared: &Shared, eras: &mut Eras, place: &mut Place, begins: bool)
     requires kept { ErasKept shared.now.roll eras.old }
     ensures kept { ErasKept shared.now.roll eras.new }
@@ -187,7 +187,7 @@ fn look_up(roll: &Roll<Line>, eras: &mut Eras, place: &mut Place)
     ensures eras { eras.new ≡ eras.old }
     ensures of { place.new.page.of ≡ place.old.page.of }
     ensures chain { ∥ AreEras place.new.page.seen ∥₁ }
-    ensures sees { IsBegunBy place.old.page.seen place.new.page.seen × IsBegunBy eras.old.page.seen place.new.page.seen }
+    ensures sees { StandsAtFront place.old.page.seen place.new.page.seen × StandsAtFront eras.old.page.seen place.new.page.seen }
     ensures era { place.new.era ≡ place.old.era }
 {
     let page = roll.again(&mut eras.page);
@@ -197,7 +197,7 @@ fn look_up(roll: &Roll<Line>, eras: &mut Eras, place: &mut Place)
 // Takes the handle's place in the last era.
 fn go_over(eras: &mut Eras, client: &mut Client, place: &mut Place) -> bool
     requires kept { ErasKept eras.old.page.of eras.old }
-    requires sees { IsBegunBy eras.old.page.seen place.old.page.seen }
+    requires sees { StandsAtFront eras.old.page.seen place.old.page.seen }
     requires later { place.old.era < eras.old.number }
     ensures kept { ErasKept eras.old.page.of eras.new }
     ensures new { result ≡ true → (client.new.caller.own ≡ []) × (client.new.seen.value ≡ client.new.caller) }

@@ -11,7 +11,7 @@ ghost use Rattle.kc_lasting.specs.declared.settling.Side.TheVariants as side;
 ghost use Rattle.kc_lasting.specs.Eras.{IsEnded};
 ghost use Rattle.kc_model.specs.declared.footprint.Seen.{Seen as SeenView};
 ghost use Rattle.kc_model.specs.declared.plain_store.TheConstants.{MOST_LOCATIONS};
-ghost use Rattle.kc_roll.specs.Fronts.{IsBegunBy};
+ghost use Rattle.kc_roll.specs.Fronts.{StandsAtFront};
 
 use crate::client::{Client, Fresh};
 use crate::cutting::cut;
@@ -77,7 +77,7 @@ impl Eras {
         footprint: &Footprint,
     ) -> Side
         requires kept { ErasKept self.old.page.of self.old }
-        requires sees { IsBegunBy self.old.page.seen place.now.page.seen }
+        requires sees { StandsAtFront self.old.page.seen place.now.page.seen }
         requires at { store_at place.now.page.seen place.now.era ≡ Some client.old.caller.of }
         ensures kept { ErasKept self.old.page.of self.new }
         ensures page { (self.new.page ≡ self.old.page) × (self.new.number ≡ self.old.number) × (self.new.keeper ≡ self.old.keeper) }

@@ -9,14 +9,14 @@ use borrow.Author.Tests.{eqb-true, eqb-false}
 use Rattle.atomic_table.specs.Table as table
 use Rattle.atomic_table.specs.Table.{Me, Allows, Joins, Splits, keeps, stepped}
 use Rattle.atomic_table.proofs.Lists.{at_set, at_snoc}
-use Rattle.kc_roll.specs.Fronts.{IsBegunBy, FrontsKept, HasGrown, HasShown, KnowsAFront, both_seen, longer, nothing_seen}
+use Rattle.kc_roll.specs.Fronts.{StandsAtFront, FrontsKept, HasGrown, HasShown, KnowsAFront, both_seen, longer, nothing_seen}
 use Rattle.kc_roll.specs.declared.rule.View.{View}
 
 module _ {A : Type 0} where
-  begins_all : (xs : List A) → IsBegunBy xs xs
+  begins_all : (xs : List A) → StandsAtFront xs xs
   begins_all xs = ([], sym (append-nil xs))
 
-  begins_more : (xs ys zs : List A) → IsBegunBy xs ys → IsBegunBy xs (ys ++ zs)
+  begins_more : (xs ys zs : List A) → StandsAtFront xs ys → StandsAtFront xs (ys ++ zs)
   begins_more xs ys zs (r, e) = (r ++ zs, ap (λ (l : List A). l ++ zs) e ∙ append_assoc xs r zs)
 
   first_same : (x y : A) (xs ys : List A) → x ∷ xs ≡ y ∷ ys → x ≡ y
@@ -25,19 +25,19 @@ module _ {A : Type 0} where
   rest_same : (x y : A) (xs ys : List A) → x ∷ xs ≡ y ∷ ys → xs ≡ ys
   rest_same x y xs ys e = cc
 
-  pub longer_left : (xs ys r s : List A) → xs ++ r ≡ ys ++ s → IsBegunBy xs (longer xs ys)
+  pub longer_left : (xs ys r s : List A) → xs ++ r ≡ ys ++ s → StandsAtFront xs (longer xs ys)
   longer_left [] ys r s e = (ys, refl)
   longer_left (x ∷ xs) [] r s e = begins_all (x ∷ xs)
   longer_left (x ∷ xs) (y ∷ ys) r s e = let b = longer_left xs ys r s (rest_same x y (xs ++ r) (ys ++ s) e) in (b.0, ap (λ (l : List A). x ∷ l) b.1)
 
-  pub longer_right : (xs ys r s : List A) → xs ++ r ≡ ys ++ s → IsBegunBy ys (longer xs ys)
+  pub longer_right : (xs ys r s : List A) → xs ++ r ≡ ys ++ s → StandsAtFront ys (longer xs ys)
   longer_right [] ys r s e = begins_all ys
   longer_right (x ∷ xs) [] r s e = (x ∷ xs, refl)
   longer_right (x ∷ xs) (y ∷ ys) r s e =
       let b = longer_right xs ys r s (rest_same x y (xs ++ r) (ys ++ s) e) in
       (b.0, ap (λ (l : List A). x ∷ l) b.1 ∙ ap (λ (z : A). z ∷ (ys ++ b.0)) (first_same x y (xs ++ r) (ys ++ s) e))
 
-  pub longer_all : (xs ys r s : List A) → xs ++ r ≡ ys ++ s → IsBegunBy (longer xs ys) (xs ++ r)
+  pub longer_all : (xs ys r s : List A) → xs ++ r ≡ ys ++ s → StandsAtFront (longer xs ys) (xs ++ r)
   longer_all [] ys r s e = (s, e)
   longer_all (x ∷ xs) [] r s e = (r, refl)
   longer_all (x ∷ xs) (y ∷ ys) r s e = let b = longer_all xs ys r s (rest_same x y (xs ++ r) (ys ++ s) e) in (b.0, ap (λ (l : List A). x ∷ l) b.1)
@@ -51,11 +51,11 @@ module _ {A : Type 0} where
   longer_long (x ∷ xs) [] = inl refl
   longer_long (x ∷ xs) (y ∷ ys) = ⊎_elim (λ e. inl (ap suc e)) (λ e. inr (ap suc e)) (longer_long xs ys)
 
-  begins_same : (xs ys : List A) → IsBegunBy xs ys → length ys ≡ length xs → ys ≡ xs
+  begins_same : (xs ys : List A) → StandsAtFront xs ys → length ys ≡ length xs → ys ≡ xs
   begins_same xs ys (r, e) same = e ∙ ap (λ (l : List A). xs ++ l) (none_left xs r (sym same ∙ ap length e)) ∙ append-nil xs
 
   -- of two that begin it the longer is one of them
-  pub longer_is : (xs ys zs : List A) → zs ≡ longer xs ys → IsBegunBy xs zs → IsBegunBy ys zs → (zs ≡ xs) ⊎ (zs ≡ ys)
+  pub longer_is : (xs ys zs : List A) → zs ≡ longer xs ys → StandsAtFront xs zs → StandsAtFront ys zs → (zs ≡ xs) ⊎ (zs ≡ ys)
   longer_is xs ys zs is b c = ⊎_elim (λ e. inl (begins_same xs zs b (ap length is ∙ e))) (λ e. inr (begins_same ys zs c (ap length is ∙ e))) (longer_long xs ys)
 
 module _ {E : Type 0} where
@@ -91,7 +91,7 @@ module _ {E : Type 0} where
       let g = kept.views other w theirs in
       let same : v.seen ++ f.seen.0 ≡ w.seen ++ g.seen.0 = sym f.seen.1 ∙ g.seen.1 in
       let fits : KnowsAFront kept.all both = record {
-        seen = subst (IsBegunBy (longer v.seen w.seen)) (sym f.seen.1) (longer_all v.seen w.seen f.seen.0 g.seen.0 same);
+        seen = subst (StandsAtFront (longer v.seen w.seen)) (sym f.seen.1) (longer_all v.seen w.seen f.seen.0 g.seen.0 same);
         left = longer_left v.seen w.seen f.seen.0 g.seen.0 same;
         right = longer_right v.seen w.seen f.seen.0 g.seen.0 same;
       } in
@@ -181,8 +181,8 @@ module _ {E : Type 0} where
             ((λ is. absurd (ne is)), (λ _. refl)),
           )
 
-  pub joined_is : (v w m after : View E) → m ≡ both_seen v w → after.seen ≡ m.seen → IsBegunBy m.left m.seen → IsBegunBy m.right m.seen → (xs ys : List E) → v.seen ≡ xs → w.seen ≡ ys → (after.seen ≡ xs) ⊎ (after.seen ≡ ys)
+  pub joined_is : (v w m after : View E) → m ≡ both_seen v w → after.seen ≡ m.seen → StandsAtFront m.left m.seen → StandsAtFront m.right m.seen → (xs ys : List E) → v.seen ≡ xs → w.seen ≡ ys → (after.seen ≡ xs) ⊎ (after.seen ≡ ys)
   joined_is v w m after is same b c xs ys px py =
-      let b' : IsBegunBy v.seen after.seen = subst (IsBegunBy v.seen) (sym same) (subst (λ (l : List E). IsBegunBy l m.seen) (ap (λ (x : View E). x.left) is) b) in
-      let c' : IsBegunBy w.seen after.seen = subst (IsBegunBy w.seen) (sym same) (subst (λ (l : List E). IsBegunBy l m.seen) (ap (λ (x : View E). x.right) is) c) in
+      let b' : StandsAtFront v.seen after.seen = subst (StandsAtFront v.seen) (sym same) (subst (λ (l : List E). StandsAtFront l m.seen) (ap (λ (x : View E). x.left) is) b) in
+      let c' : StandsAtFront w.seen after.seen = subst (StandsAtFront w.seen) (sym same) (subst (λ (l : List E). StandsAtFront l m.seen) (ap (λ (x : View E). x.right) is) c) in
       ⊎_elim (λ e. inl (e ∙ px)) (λ e. inr (e ∙ py)) (longer_is v.seen w.seen after.seen (same ∙ ap (λ (x : View E). x.seen) is) b' c')

@@ -8,8 +8,8 @@ use Rattle.atomic_table.specs.Table.{Me}
 use Rattle.kc_roll.specs.declared.rule.View.{View}
 
 -- the one stands at the front of the other
-abbrev pub IsBegunBy : {A : Type 0} → List A → List A → Type 0
-IsBegunBy {A} xs ys = (rest : List A) × (ys ≡ xs ++ rest)
+abbrev pub StandsAtFront : {A : Type 0} → List A → List A → Type 0
+StandsAtFront {A} xs ys = (rest : List A) × (ys ≡ xs ++ rest)
 
 -- the list that it is of, and what was seen of it
 pub record PageView (E : Type 0) : Type 0 where
@@ -30,9 +30,9 @@ both_seen v w = record { seen = longer v.seen w.seen; left = v.seen; right = w.s
 
 -- what was seen begins the list, and what it was joined of begins that
 pub record KnowsAFront {E : Type 0} (all : List E) (v : View E) : Type 0 where
-  pub seen : IsBegunBy v.seen all
-  pub left : IsBegunBy v.left v.seen
-  pub right : IsBegunBy v.right v.seen
+  pub seen : StandsAtFront v.seen all
+  pub left : StandsAtFront v.left v.seen
+  pub right : StandsAtFront v.right v.seen
 
 pub record FrontsKept {E : Type 0} (s : table.State (Unit {0}) (View E)) : Type 0 where
   pub all : List E
@@ -45,4 +45,4 @@ abbrev pub HasGrown : {E : Type 0} → ℕ → E → Me (Unit {0}) (View E) → 
 HasGrown n next me found after = (found ≡ n → (after.0.seen ≡ me.0.seen ++ next ∷ []) × (after.1 ≡ me.1)) × (found ≢ n → after ≡ me)
 
 abbrev pub HasShown : {E : Type 0} → Me (Unit {0}) (View E) → Me (Unit {0}) (View E) → Type 0
-HasShown me after = (after ≡ me) × IsBegunBy me.0.left me.0.seen × IsBegunBy me.0.right me.0.seen
+HasShown me after = (after ≡ me) × StandsAtFront me.0.left me.0.seen × StandsAtFront me.0.right me.0.seen

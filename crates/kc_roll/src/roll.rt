@@ -1,7 +1,7 @@
 //! A roll, and its pages.
 
 ghost use Rattle.std.specs.Prelude.{◌≡◌, ◌⊎◌, ◌-◌, ◌^◌, ◌<◌, ◌++◌, ◌∷◌, [], true, false, length, IfOk};
-ghost use Rattle.kc_roll.specs.Fronts.{IsBegunBy};
+ghost use Rattle.kc_roll.specs.Fronts.{StandsAtFront};
 
 use crate::rule::{Copies, Fronts, Grows, Longer, Shows, View, Writes};
 use atomic_table::{Seat, Table};
@@ -65,7 +65,7 @@ impl<E> Roll<E> {
     pub fn join(&self, page: &mut Page<E>, other: Page<E>)
         requires { (page.old.of ≡ self.now) × (other.of ≡ self.now) }
         ensures of { page.new.of ≡ page.old.of }
-        ensures seen { IsBegunBy page.old.seen page.new.seen × IsBegunBy other.seen page.new.seen }
+        ensures seen { StandsAtFront page.old.seen page.new.seen × StandsAtFront other.seen page.new.seen }
         ensures either { (page.new.seen ≡ page.old.seen) ⊎ (page.new.seen ≡ other.seen) }
     {
         let Page { seat } = other;
