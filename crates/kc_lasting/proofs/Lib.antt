@@ -1,0 +1,15 @@
+pub mod Made
+pub mod Looked
+pub mod Chains
+pub mod Kept
+pub mod Sides
+pub mod Dealing
+pub mod Putting
+pub mod Early
+pub mod Settled
+pub mod Holding
+pub mod Learning
+pub mod GoingOver
+pub mod Moving
+pub mod Firsts
+pub mod Telling
