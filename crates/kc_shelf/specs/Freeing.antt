@@ -25,6 +25,6 @@ Frees slot (freed.Done true f) c d = ActCame slot.shelf (act.Free slot.ticket) (
 Frees slot (freed.Kept back o) c d = (back ≡ slot) × IsNotFreed o × ActCame slot.shelf (act.Free slot.ticket) o c d
 
 -- its next life began, by an entry of the caller that replied the ticket; or it comes back
-abbrev pub Renews : Vacant → Renewed → CallerView → CallerView → Type 0
-Renews slot (renewed.Done ticket f) c d = ActCame slot.shelf (act.Renew slot.ticket) (outcome.Done (reply.Value ticket) f) c d
-Renews slot (renewed.Kept back o) c d = (back ≡ slot) × IsNoTicket o × ActCame slot.shelf (act.Renew slot.ticket) o c d
+abbrev pub RenewsSlot : Vacant → Renewed → CallerView → CallerView → Type 0
+RenewsSlot slot (renewed.Done ticket f) c d = ActCame slot.shelf (act.Renew slot.ticket) (outcome.Done (reply.Value ticket) f) c d
+RenewsSlot slot (renewed.Kept back o) c d = (back ≡ slot) × IsNoTicket o × ActCame slot.shelf (act.Renew slot.ticket) o c d

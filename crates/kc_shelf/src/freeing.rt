@@ -2,7 +2,7 @@
 
 ghost use Rattle.std.specs.Prelude.{◌≡◌, ◌≤◌};
 ghost use Rattle.kc_store.specs.Knows.{Remembers};
-ghost use Rattle.kc_shelf.specs.Freeing.{Frees, Renews};
+ghost use Rattle.kc_shelf.specs.Freeing.{Frees, RenewsSlot};
 ghost use Rattle.kc_shelf.specs.Meaning.{shelf_cells_end};
 
 use crate::handing::commit_act;
@@ -20,7 +20,7 @@ pub enum Freed<'a> {
     Kept { slot: Vacant<'a>, outcome: Outcome },
 }
 
-/// PutsValue a slot back among the free ones.
+/// Puts a slot back among the free ones.
 pub fn free<'a, R: Wait>(rt: &R, caller: &mut Caller, slot: Vacant<'a>) -> Freed<'a>
     requires caller { caller.old.of ≡ slot.store.now }
     requires within { shelf_cells_end slot.shelf ≤ slot.store.now.locations }
@@ -70,7 +70,7 @@ pub enum Renewed<'a> {
 pub fn renew<'a, R: Wait>(rt: &R, caller: &mut Caller, slot: Vacant<'a>) -> Renewed<'a>
     requires caller { caller.old.of ≡ slot.store.now }
     requires within { shelf_cells_end slot.shelf ≤ slot.store.now.locations }
-    ensures renews { Renews slot.entry result caller.old caller.new }
+    ensures renews { RenewsSlot slot.entry result caller.old caller.new }
     ensures remembers { Remembers caller.old caller.new }
 {
     match commit_act(

@@ -68,7 +68,7 @@ pub enum Put<T> {
     },
 }
 
-/// PutsValue a value into a free slot: it has one name, which is the caller's to write where it likes. It takes no memory.
+/// Puts a value into a free slot: it has one name, which is the caller's to write where it likes. It takes no memory.
 pub fn put_value<R: Wait, T: Drop, K: Holds<T>>(
     rt: &R,
     store: &Store,

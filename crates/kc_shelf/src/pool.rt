@@ -147,7 +147,7 @@ impl<T: Drop, K: Holds<T>> Pool<T, K> {
         result
     }
 
-    /// PutsValue a value into the slot of a ticket; it comes back where that has one, or had one under this ticket or a later one.
+    /// Puts a value into the slot of a ticket; it comes back where that has one, or had one under this ticket or a later one.
     pub fn fill(&self, ticket: u32, value: T) -> Result<(), T>
         requires { K.holds ticket value }
         ensures { IfErr result (λ x. x ≡ value) }
