@@ -5,8 +5,9 @@
  * in its locations. A transaction is an array of operations that happens at one moment or not at all. Each thread
  * has a handle of its own, a `kcas_caller`; no call waits, and no transaction takes memory.
  *
- * The first part declares the calls of the library libkcas.a; what each answers is proved. The second part is plain
- * C over these calls: it tries again, waits, and runs transactions whose next step depends on what they read.
+ * The first part declares the calls of the library libkcas; what each answers is proved. The second part is plain
+ * C over these calls: it tries again, waits, and runs transactions whose next step depends on what they read. It is C11, or C++11 and on;
+ * kcas.hpp, with classes, is C++17.
  *
  * What a program has to uphold, since the library can't test it:
  *
@@ -22,6 +23,13 @@
 
 #include <stddef.h>
 #include <stdint.h>
+
+/* The version of this header. kcas_version() has that of the library: a program that was built by one and runs with
+ * another can compare them. Until 1.0.0 a second number that differs may mean calls that differ. */
+#define KCAS_VERSION_MAJOR 0
+#define KCAS_VERSION_MINOR 9
+#define KCAS_VERSION_PATCH 0
+#define KCAS_VERSION "0.9.0"
 
 #ifdef __cplusplus
 extern "C" {
@@ -163,7 +171,7 @@ enum {
     KCAS_SIGNALLED = 37
 };
 
-enum { KCAS_MOST_LOCATIONS = 65536, KCAS_MOST_CALLERS = 64, KCAS_MOST_OPS = 16, KCAS_MOST_TOUCHED = 256 };
+enum { KCAS_MOST_LOCATIONS = 65536, KCAS_MOST_CALLERS = 64, KCAS_MOST_OPS = 16, KCAS_MOST_ALTERNATIVES = 4, KCAS_MOST_TOUCHED = 256 };
 
 /* ---- calls of the library ---- */
 
@@ -216,13 +224,26 @@ uint32_t kcas_hang_step(kcas_caller *caller);
 uint32_t kcas_signalled(kcas_caller *caller);
 uint32_t kcas_leave(kcas_caller *caller);
 
+/* ---- what is plain C over these calls ---- */
+
+/* The version of the library, as KCAS_VERSION is that of this header. */
+const char *kcas_version(void);
+
+/* The name of an answer, as "KCAS_LATER"; "KCAS_?" for a number that no call answers. */
+const char *kcas_answer_name(uint32_t answer);
+
+/* Which of the operations that kcas_try answered KCAS_BAD_OPS is the first that is wrong, from 0 on; where each is right, `count`: then
+ * there are none, more than 16, or more than there is room for replies. It does nothing, but tries, each
+ * time together with a check that never holds: so kcas_reads has nothing of use behind it, and bits may be added to *wakes. */
+size_t kcas_bad_op(kcas_caller *caller, const kcas_op *ops, size_t count, uint64_t *wakes);
+
 #ifdef __cplusplus
 }
 #endif
 
-/* ---- what is plain C over these calls ---- */
-
 #include <stdlib.h>
+
+#include <time.h>
 
 #ifdef __linux__
 #include <linux/futex.h>
@@ -243,6 +264,32 @@ static inline uint32_t kcas_plus(kcas_word *word, uint32_t n) { return word->fet
 typedef _Atomic uint32_t kcas_word;
 static inline uint32_t kcas_load(kcas_word *word) { return atomic_load(word); }
 static inline uint32_t kcas_plus(kcas_word *word, uint32_t n) { return atomic_fetch_add(word, n); }
+#endif
+
+/* The library isn't built with the sanitizers, so a program that is tells them here what its tries do: each comes behind those before
+ * it (the thread sanitizer; more than holds, so it may miss a race and calls none that there isn't), and has written its replies (the
+ * memory sanitizer). It knows nothing of tries that are made by kcas_try itself. */
+#ifndef __has_feature
+#define KCAS_HAS(feature) 0
+#else
+#define KCAS_HAS(feature) __has_feature(feature)
+#endif
+#if defined(__SANITIZE_THREAD__) || KCAS_HAS(thread_sanitizer)
+#include <sanitizer/tsan_interface.h>
+static inline void kcas_before(void) { __tsan_release((void *)(uintptr_t)&kcas_try); }
+static inline void kcas_behind(void) { __tsan_acquire((void *)(uintptr_t)&kcas_try); }
+#else
+static inline void kcas_before(void) {}
+static inline void kcas_behind(void) {}
+#endif
+#if KCAS_HAS(memory_sanitizer)
+#include <sanitizer/msan_interface.h>
+static inline void kcas_written(const void *at, size_t size) { __msan_unpoison(at, size); }
+#else
+static inline void kcas_written(const void *at, size_t size) {
+    (void)at;
+    (void)size;
+}
 #endif
 
 #ifdef KCAS_CHECKED
@@ -306,12 +353,42 @@ typedef struct kcas_bell {
 #define KCAS_SELDOM static inline
 #endif
 
-static inline void kcas_sleep(kcas_word *word, uint32_t seen) {
+/* What the monotonic clock shows. */
+KCAS_SELDOM struct timespec kcas_now(void) {
+    struct timespec now = { 0, 0 };
 #ifdef __linux__
-    syscall(SYS_futex, (uint32_t *)word, FUTEX_WAIT_PRIVATE, seen, (void *)0, (void *)0, 0);
+    syscall(SYS_clock_gettime, 1 /* CLOCK_MONOTONIC, which C11 alone doesn't name */, &now);
+#else
+    clock_gettime(CLOCK_MONOTONIC, &now);
+#endif
+    return now;
+}
+/* A deadline: what the monotonic clock will show in so many milliseconds. */
+KCAS_SELDOM struct timespec kcas_in(uint32_t milliseconds) {
+    struct timespec then = kcas_now();
+    then.tv_sec += milliseconds / 1000;
+    then.tv_nsec += milliseconds % 1000 * 1000000;
+    if (then.tv_nsec >= 1000000000) {
+        then.tv_sec++;
+        then.tv_nsec -= 1000000000;
+    }
+    return then;
+}
+/* Whether a deadline has come; NULL is one that never does. */
+KCAS_SELDOM int kcas_is_past(const struct timespec *until) {
+    if (!until) return 0;
+    struct timespec now = kcas_now();
+    return now.tv_sec != until->tv_sec ? now.tv_sec > until->tv_sec : now.tv_nsec >= until->tv_nsec;
+}
+
+/* Sleeps while the word has the value that was seen, until the deadline at most. It may return for no cause. */
+static inline void kcas_sleep(kcas_word *word, uint32_t seen, const struct timespec *until) {
+#ifdef __linux__
+    syscall(SYS_futex, (uint32_t *)word, FUTEX_WAIT_BITSET_PRIVATE, seen, until, (void *)0, FUTEX_BITSET_MATCH_ANY);
 #else
     (void)word;
     (void)seen;
+    (void)until;
 #endif
 }
 KCAS_SELDOM void kcas_rouse(kcas_word *word) {
@@ -353,13 +430,19 @@ static inline int kcas_missed(uint32_t answer) { return answer == KCAS_LOST || a
 /* One try, and whose hangs it ended are woken. */
 static inline uint32_t kcas_try_once(kcas_bell *bell, kcas_caller *caller, const kcas_op *ops, size_t count, kcas_reply *replies, size_t room) {
     uint64_t wakes = 0;
+    kcas_before();
     uint32_t answer = kcas_try(caller, ops, count, replies, room, &wakes);
+    kcas_behind();
+    if (answer == KCAS_DONE) kcas_written(replies, count * sizeof *replies);
     kcas_wake(bell, wakes);
     return answer;
 }
 static inline uint32_t kcas_add_once(kcas_bell *bell, kcas_caller *caller, uint32_t location, uint32_t number, uint32_t *before) {
     uint64_t wakes = 0;
+    kcas_before();
     uint32_t answer = kcas_add(caller, location, number, before, &wakes);
+    kcas_behind();
+    if (answer == KCAS_DONE) kcas_written(before, sizeof *before);
     kcas_wake(bell, wakes);
     return answer;
 }
@@ -407,30 +490,36 @@ static inline uint32_t kcas_commit_add(kcas_bell *bell, kcas_caller *caller, uin
     return answer;
 }
 
-/* And waits where it would have to: never KCAS_LATER. It wakes at each commit on the store by the same bell. */
-static inline uint32_t kcas_commit_waiting(kcas_bell *bell, kcas_caller *caller, const kcas_op *ops, size_t count, kcas_reply *replies, size_t room) {
+/* And waits where it would have to, until a deadline by the monotonic clock: KCAS_LATER only behind it. It tries at least once, and wakes at
+ * each commit on the store by the same bell. NULL for `until`: it waits on. */
+static inline uint32_t kcas_commit_until(kcas_bell *bell, kcas_caller *caller, const kcas_op *ops, size_t count, kcas_reply *replies, size_t room, const struct timespec *until) {
     uint32_t answer = kcas_commit(bell, caller, ops, count, replies, room);
-    while (answer == KCAS_LATER) {
+    while (answer == KCAS_LATER && !kcas_is_past(until)) {
         kcas_plus(&bell->waiters, 1);
         uint32_t seen = kcas_load(&bell->changes);
         answer = kcas_commit(bell, caller, ops, count, replies, room);
-        if (answer == KCAS_LATER) kcas_sleep(&bell->changes, seen);
+        if (answer == KCAS_LATER) kcas_sleep(&bell->changes, seen, until);
         kcas_plus(&bell->waiters, (uint32_t)-1);
         if (answer == KCAS_LATER) answer = kcas_commit(bell, caller, ops, count, replies, room);
     }
     return answer;
 }
 
-/* Waits for a change of what the last try read, by a hang of the store itself. */
-static inline void kcas_hang_on(kcas_bell *bell, kcas_caller *caller) {
+/* And waits where it would have to: never KCAS_LATER. */
+static inline uint32_t kcas_commit_waiting(kcas_bell *bell, kcas_caller *caller, const kcas_op *ops, size_t count, kcas_reply *replies, size_t room) {
+    return kcas_commit_until(bell, caller, ops, count, replies, room, NULL);
+}
+
+/* Waits for a change of what the last try read, by a hang of the store itself, until the deadline at most. */
+static inline void kcas_hang_until(kcas_bell *bell, kcas_caller *caller, const struct timespec *until) {
     kcas_enter(caller);
     uint32_t step = kcas_hang(caller), number = kcas_number(caller);
     while (step == KCAS_GOING) step = kcas_hang_step(caller);
     if (step == KCAS_HUNG) {
         for (;;) {
             uint32_t seen = kcas_load(&bell->seats[number]);
-            if (kcas_signalled(caller) != KCAS_QUIET) break;
-            kcas_sleep(&bell->seats[number], seen);
+            if (kcas_signalled(caller) != KCAS_QUIET || kcas_is_past(until)) break;
+            kcas_sleep(&bell->seats[number], seen, until);
         }
         step = kcas_leave(caller);
         while (step == KCAS_LEAVING) step = kcas_hang_step(caller);
@@ -438,15 +527,44 @@ static inline void kcas_hang_on(kcas_bell *bell, kcas_caller *caller) {
     kcas_exit(caller);
 }
 
-/* As kcas_commit_waiting, but it wakes only at a change of what it read. It costs more to begin to wait, and nothing to
- * those who commit elsewhere. */
-static inline uint32_t kcas_commit_hanging(kcas_bell *bell, kcas_caller *caller, const kcas_op *ops, size_t count, kcas_reply *replies, size_t room) {
-    uint32_t answer;
-    while ((answer = kcas_commit(bell, caller, ops, count, replies, room)) == KCAS_LATER) kcas_hang_on(bell, caller);
+static inline void kcas_hang_on(kcas_bell *bell, kcas_caller *caller) { kcas_hang_until(bell, caller, NULL); }
+
+/* As kcas_commit_until and kcas_commit_waiting, but they wake only at a change of what was read. It costs more to begin to wait, and nothing
+ * to those who commit elsewhere. */
+static inline uint32_t kcas_commit_hanging_until(kcas_bell *bell, kcas_caller *caller, const kcas_op *ops, size_t count, kcas_reply *replies, size_t room, const struct timespec *until) {
+    uint32_t answer = kcas_commit(bell, caller, ops, count, replies, room);
+    while (answer == KCAS_LATER && !kcas_is_past(until)) {
+        kcas_hang_until(bell, caller, until);
+        answer = kcas_commit(bell, caller, ops, count, replies, room);
+    }
     return answer;
+}
+static inline uint32_t kcas_commit_hanging(kcas_bell *bell, kcas_caller *caller, const kcas_op *ops, size_t count, kcas_reply *replies, size_t room) {
+    return kcas_commit_hanging_until(bell, caller, ops, count, replies, room, NULL);
 }
 
 /* ---- transactions whose next step depends on what they read ---- */
+
+/* Commits these operations at a moment at which all that the last try read has the values that it had then; so the operations of that try would be
+ * answered the same. KCAS_LATER where something has changed: then look again, and compute anew. One looks by kcas_commit or the like,
+ * at structures too, computes, and acts by this. KCAS_BAD_OPS where reads and operations are more than 16 together, or there is an
+ * alternative among them. */
+static inline uint32_t kcas_commit_as_seen(kcas_bell *bell, kcas_caller *caller, const kcas_op *ops, size_t count, kcas_reply *replies, size_t room) {
+    kcas_op all[KCAS_MOST_OPS];
+    kcas_reply told[KCAS_MOST_OPS];
+    kcas_seen seen[KCAS_MOST_OPS + 1];
+    size_t reads = kcas_reads(caller, seen, KCAS_MOST_OPS + 1);
+    kcas_written(seen, sizeof seen);
+    if (reads > KCAS_MOST_OPS || count > KCAS_MOST_OPS - reads || count > room) return KCAS_BAD_OPS;
+    for (size_t i = 0; i < reads; i++) all[i] = kcas_check(seen[i].location, KCAS_EQ, seen[i].value);
+    for (size_t i = 0; i < count; i++) {
+        if (ops[i].mark != KCAS_NEXT) return KCAS_BAD_OPS;
+        all[reads + i] = ops[i];
+    }
+    uint32_t answer = kcas_commit(bell, caller, all, reads + count, told, KCAS_MOST_OPS);
+    for (size_t i = 0; i < count && answer == KCAS_DONE; i++) replies[i] = told[reads + i];
+    return answer;
+}
 
 /* What a body has read and is to write: up to 16 locations read and written together. */
 typedef struct kcas_log {
@@ -471,6 +589,7 @@ static inline uint32_t kcas_read_in(kcas_log *log, uint32_t location) {
     }
     kcas_enter(log->caller);
     while ((answer = kcas_read(log->caller, location, &value, &version)) == KCAS_BUSY) kcas_pause();
+    kcas_behind();
     kcas_exit(log->caller);
     if (answer != KCAS_DONE) {
         log->failed = answer;
@@ -514,7 +633,7 @@ static inline uint32_t kcas_wait_in(kcas_bell *bell, kcas_log *log) {
     kcas_plus(&bell->waiters, 1);
     uint32_t seen = kcas_load(&bell->changes);
     uint32_t answer = kcas_still(bell, log);
-    if (answer == KCAS_DONE && log->count != 0) kcas_sleep(&bell->changes, seen);
+    if (answer == KCAS_DONE && log->count != 0) kcas_sleep(&bell->changes, seen, NULL);
     kcas_plus(&bell->waiters, (uint32_t)-1);
     return log->count == 0 ? (uint32_t)KCAS_BAD_OPS : answer;
 }

@@ -2,10 +2,17 @@
 #ifndef KCAS_HPP
 #define KCAS_HPP
 
+#if __cplusplus < 201703L && !(defined(_MSVC_LANG) && _MSVC_LANG >= 201703L)
+#error "kcas.hpp is C++17: compile with -std=c++17 or a later one"
+#endif
+
 #include "kcas.h"
 
+#include <algorithm>
 #include <array>
+#include <chrono>
 #include <cstddef>
+#include <ctime>
 #include <memory>
 #include <stdexcept>
 #include <string>
@@ -19,10 +26,13 @@ using object = kcas_object;
 using op = kcas_op;
 using reply = kcas_reply;
 
-// What a call refused, by its number.
+// A call that was refused: its answer, and for KCAS_BAD_OPS which operation is wrong, from 0 on.
 struct refused : std::runtime_error {
+    static constexpr std::size_t none = static_cast<std::size_t>(-1);
     std::uint32_t answer;
-    explicit refused(std::uint32_t answer) : std::runtime_error("kcas: answer " + std::to_string(answer)), answer(answer) {}
+    std::size_t operation;
+    explicit refused(std::uint32_t answer, std::size_t operation = none)
+        : std::runtime_error(std::string("kcas: ") + kcas_answer_name(answer) + (operation == none ? "" : ", operation " + std::to_string(operation))), answer(answer), operation(operation) {}
 };
 
 // The operations of one transaction, and behind it their replies.
@@ -65,22 +75,39 @@ public:
     ~caller() { kcas_close(&handle_); }
 
     // False where it would wait; a refusal is thrown.
-    bool commit(transaction &t) { return checked(kcas_commit(bell_.get(), &handle_, t.ops_.data(), t.count_, t.replies_.data(), t.replies_.size())); }
-    void commit_waiting(transaction &t) { checked(kcas_commit_waiting(bell_.get(), &handle_, t.ops_.data(), t.count_, t.replies_.data(), t.replies_.size())); }
-    void commit_hanging(transaction &t) { checked(kcas_commit_hanging(bell_.get(), &handle_, t.ops_.data(), t.count_, t.replies_.data(), t.replies_.size())); }
+    bool commit(transaction &t) { return checked(t, kcas_commit(bell(), &handle_, t.ops_.data(), t.count_, t.replies_.data(), t.replies_.size())); }
+    void commit_waiting(transaction &t) { checked(t, kcas_commit_waiting(bell(), &handle_, t.ops_.data(), t.count_, t.replies_.data(), t.replies_.size())); }
+    void commit_hanging(transaction &t) { checked(t, kcas_commit_hanging(bell(), &handle_, t.ops_.data(), t.count_, t.replies_.data(), t.replies_.size())); }
+
+    // Waits so long at most: false where it would still wait.
+    template <class Number, class Period>
+    bool commit_for(transaction &t, std::chrono::duration<Number, Period> limit) {
+        using namespace std::chrono;
+        if (duration<double>(limit) > hours(24 * 365 * 100)) return commit_waiting(t), true;
+        std::timespec until = kcas_now();
+        auto behind = seconds(until.tv_sec) + nanoseconds(until.tv_nsec) + ceil<nanoseconds>(std::max(duration<double>(limit), duration<double>(0)));
+        until.tv_sec = static_cast<std::time_t>(duration_cast<seconds>(behind).count());
+        until.tv_nsec = static_cast<long>((behind % seconds(1)).count());
+        return checked(t, kcas_commit_until(bell(), &handle_, t.ops_.data(), t.count_, t.replies_.data(), t.replies_.size(), &until));
+    }
+    template <class Span>
+    bool commit_until(transaction &t, std::chrono::time_point<std::chrono::steady_clock, Span> until) { return commit_for(t, until - std::chrono::steady_clock::now()); }
+
+    // Commits where all that the last commit read has still the values that it had then: false where something has changed.
+    bool commit_as_seen(transaction &t) { return checked(t, kcas_commit_as_seen(bell(), &handle_, t.ops_.data(), t.count_, t.replies_.data(), t.replies_.size())); }
 
     // One operation, and its reply.
     reply commit(const object &on, std::uint32_t verb, std::uint32_t a = 0, std::uint32_t b = 0) {
         op operation = kcas_do(on, verb, a, b);
         reply told{};
-        if (!checked(kcas_commit(bell_.get(), &handle_, &operation, 1, &told, 1))) throw refused(KCAS_LATER);
+        if (!checked(&operation, 1, kcas_commit(bell(), &handle_, &operation, 1, &told, 1))) throw refused(KCAS_LATER);
         return told;
     }
 
     // Adds to one location, which wraps, and answers the value before. It costs less than an operation.
     std::uint32_t add(std::uint32_t location, std::uint32_t number) {
         std::uint32_t before = 0;
-        checked(kcas_commit_add(bell_.get(), &handle_, location, number, &before));
+        checked(kcas_commit_add(bell(), &handle_, location, number, &before));
         return before;
     }
 
@@ -88,10 +115,12 @@ public:
     template <class Body>
     bool run(Body &&body) {
         using Called = std::remove_reference_t<Body>;
-        return checked(kcas_run(bell_.get(), &handle_, [](kcas_log *log, void *with) -> std::uint32_t { return (*static_cast<Called *>(with))(*log); }, const_cast<void *>(static_cast<const void *>(std::addressof(body)))));
+        return checked(kcas_run(bell(), &handle_, [](kcas_log *log, void *with) -> std::uint32_t { return (*static_cast<Called *>(with))(*log); }, const_cast<void *>(static_cast<const void *>(std::addressof(body)))));
     }
 
+    // For the calls of kcas.h: the handle, and the one bell of its store.
     kcas_caller *get() { return &handle_; }
+    kcas_bell *bell() { return bell_.get(); }
 
 private:
     friend std::vector<caller> open(const std::vector<std::uint32_t> &, std::size_t);
@@ -100,6 +129,14 @@ private:
         if (answer != KCAS_DONE && answer != KCAS_LATER) throw refused(answer);
         return answer == KCAS_DONE;
     }
+    bool checked(const op *ops, std::size_t count, std::uint32_t answer) {
+        if (answer != KCAS_BAD_OPS) return checked(answer);
+        std::uint64_t wakes = 0;
+        std::size_t at = kcas_bad_op(&handle_, ops, count, &wakes);
+        kcas_wake(bell(), wakes);
+        throw refused(answer, at == count ? refused::none : at);
+    }
+    bool checked(const transaction &t, std::uint32_t answer) { return checked(t.ops_.data(), t.count_, answer); }
     kcas_caller handle_;
     std::shared_ptr<kcas_bell> bell_;
 };

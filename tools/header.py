@@ -1,9 +1,11 @@
 #!/usr/bin/env python3
-"""Compares the numbers of c/kcas.h, and the order of its structs' fields, with the sources whose laws state them. Says what differs.
+"""Compares the numbers of c/kcas.h, and the order of its structs' fields, with the sources whose laws state them; the numbers of the wrappers in
+Rust and Python with the header; and its version with all that name one. Says what differs.
 
 Usage: tools/header.py
 """
 
+import ast
 import os
 import re
 import sys
@@ -11,14 +13,15 @@ import sys
 TOP = os.path.dirname(os.path.dirname(os.path.abspath(__file__)))
 
 # The sources of C's numbers, and the words that C says otherwise.
-CALLS = ("kinds", "verbs", "reply")
+CALLS = ("kinds", "verbs", "reply", "calls")
 SAID = {
     "LOCATION": "LOC", "ACCUMULATOR": "ACC", "EXCHANGE": "XCHG", "POP_WAIT": "POPW", "DEQ_WAIT": "DEQW", "CPUT_WAIT": "CPUTW",
+    "MOST_CALLS": "MOST_OPS",
 }
 # In sources alone: what no enum of the header names.
 UNNAMED = {"NO_NUMBER"}
 # In the header alone: limits, and what a body of the header's own answers.
-OF_THE_HEADER = {"MOST_LOCATIONS", "MOST_CALLERS", "MOST_OPS", "MOST_TOUCHED", "COMMIT", "WAIT", "STOP"}
+OF_THE_HEADER = {"MOST_LOCATIONS", "MOST_CALLERS", "MOST_TOUCHED", "COMMIT", "WAIT", "STOP"}
 # Structs by their names here and there.
 STRUCTS = {
     "kcas_object": ("kc_calls/src/object.rt", "KcasObject"),
