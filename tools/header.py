@@ -72,6 +72,40 @@ def fields_in_source(path, name):
     return re.findall(r"^    pub (\w+):", body, re.M)
 
 
+def in_rust():
+    """The numbers of the wrapper in Rust."""
+    return {name: int(number) for name, number in re.findall(r"const (\w+): \w+ = (\d+);", text_of("c/rust/src/numbers.rs"))}
+
+
+# What each list of words of the wrapper in Python is called before a word in the header.
+LISTS = {"VERBS": "", "KINDS": "", "FUNCTIONS": "FUN_", "RELATIONS": "", "REPLIES": ""}
+
+
+def in_python():
+    """The numbers of the wrapper in Python: each word has its place in its list, from 1 on."""
+    found = {}
+    for node in ast.parse(text_of("c/python/kcas/_numbers.py")).body:
+        if isinstance(node, ast.Assign):
+            before = LISTS[node.targets[0].id]
+            for number, word in enumerate(node.value.func.value.value.split(), 1):
+                found[before + word.upper()] = number
+    return found
+
+
+def versions(header):
+    """The version, by the files that name it."""
+    numbers = re.findall(r"#define KCAS_VERSION_(?:MAJOR|MINOR|PATCH) (\d+)", header)
+    yield "the numbers of c/kcas.h", ".".join(numbers)
+    for path, form in (
+        ("c/kcas.h", r'#define KCAS_VERSION "(.*)"'),
+        ("CHANGELOG.md", r"^## (\d\S*)"),
+        ("c/rust/Cargo.toml", r'^version = "(.*)"'),
+        ("c/python/pyproject.toml", r'^version = "(.*)"'),
+        ("c/python/kcas/__init__.py", r'^__version__ = "(.*)"'),
+    ):
+        yield path, re.search(form, text_of(path), re.M).group(1)
+
+
 def differences():
     header = text_of("c/kcas.h")
     said, meant = in_header(header), in_sources()
@@ -81,6 +115,14 @@ def differences():
     for name, (path, struct) in STRUCTS.items():
         if fields_in_header(header, name) != fields_in_source(path, struct):
             yield f"{name} of c/kcas.h has other fields than {struct} of crates/{path}"
+    for language, numbers in (("rust", in_rust()), ("python", in_python())):
+        for name, number in numbers.items():
+            if said.get(name) != number:
+                yield f"KCAS_{name} is {said.get(name)} in c/kcas.h and {number} in c/{language}"
+    named = dict(versions(header))
+    for path, version in named.items():
+        if version != named["CHANGELOG.md"]:
+            yield f"the version is {version} by {path}, and {named['CHANGELOG.md']} by CHANGELOG.md"
 
 
 if __name__ == "__main__":

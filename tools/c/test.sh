@@ -1,6 +1,6 @@
 #!/usr/bin/env bash
-# Runs the tests of the library for C: plain, with KCAS_CHECKED, and by the address, undefined-behaviour and thread sanitizers; then
-# the examples. It stands outside of the gate. Build first: tools/c/build.sh.
+# Runs the tests of the library for C: plain, with KCAS_CHECKED, and by the address, undefined-behaviour, thread and memory sanitizers; then
+# those of the wrappers, the examples, and an installation in a fresh prefix. It stands outside of the gate. Build first: tools/c/build.sh.
 # Usage: tools/c/test.sh [ROUNDS]
 set -eu
 top="$(cd "$(dirname "$0")/../.." && pwd)"
@@ -10,39 +10,59 @@ trap 'rm -rf "$room"' EXIT
 failed=0
 has() { command -v "$1" > /dev/null || { echo "no $1: $2 is left out"; return 1; }; }
 
-# try NAME FLAGS..: each test, built with these flags
-try() {
-    local name="$1" test wrap
+# ran NAME COMMAND..: says whether it passed, and its last lines where it didn't
+ran() {
+    local name="$1"
     shift
+    if timeout 600 "$@" > "$room/said" 2>&1; then
+        echo "$name passed $(tr '\n' ' ' < "$room/said")"
+    else
+        echo "$name FAILED"
+        tail -5 "$room/said"
+        failed=1
+    fi
+}
+
+# try NAME COMPILER FLAGS..: each test, built with these flags
+try() {
+    local name="$1" compiler="$2" test wrap
+    shift 2
     echo 'int main(void) { return 0; }' > "$room/none.c"
-    if ! { gcc "$@" "$room/none.c" -o "$room/none" && "$room/none"; } > /dev/null 2>&1; then
+    if ! { "$compiler" "$@" "$room/none.c" -o "$room/none" && "$room/none"; } > /dev/null 2>&1; then
         echo "no $name here: left out"
         return
     fi
-    for test in calls refused adds sums waits soak; do
+    for test in $tests; do
         wrap=()
         [ "$test" = refused ] && wrap=(-Wl,--wrap=malloc,--wrap=realloc,--wrap=free)
-        gcc -std=c11 -g -O1 -Wall -Wextra "$@" -I "$top/c" "$top/tools/c/tests/$test.c" "$to/libkcas.a" "${wrap[@]}" -pthread -o "$room/$test"
-        if timeout 600 "$room/$test" ${rounds:+$rounds} > "$room/said" 2>&1; then
-            echo "$name: $test passed $(tr '\n' ' ' < "$room/said")"
-        else
-            echo "$name: $test FAILED"
-            tail -5 "$room/said"
-            failed=1
-        fi
+        "$compiler" -std=c11 -g -O1 -Wall -Wextra -Werror "$@" -I "$top/c" "$top/tools/c/tests/$test.c" "$to/libkcas.a" "${wrap[@]}" -pthread -o "$room/$test"
+        ran "$name: $test" "$room/$test" ${rounds:+$rounds}
     done
 }
 
 rounds="${1:-}"
-try plain
-try checked -DKCAS_CHECKED
+tests="calls refused adds sums waits soak named deadlines handed"
+try plain gcc
+try checked gcc -DKCAS_CHECKED
 rounds="${1:-5000}"
-try "address and undefined-behaviour sanitizer" -fsanitize=address,undefined -fno-sanitize-recover=all
-try "thread sanitizer" -fsanitize=thread
-rounds=
-for example in accounts jobs; do
-    [ -x "$to/$example" ] && { timeout 60 "$to/$example" || failed=1; }
+try "address and undefined-behaviour sanitizer" gcc -fsanitize=address,undefined -fno-sanitize-recover=all
+try "thread sanitizer" gcc -fsanitize=thread
+# The header tells this one what its own tries have written; the other tests call the library themselves.
+tests="sums waits soak deadlines handed"
+try "memory sanitizer" clang -fsanitize=memory
+for example in accounts pool jobs-cc pool-cc; do
+    [ -x "$to/$example" ] && ran "example: $example" "$to/$example"
 done
-[ -x "$to/cargo/release/examples/accounts" ] && { timeout 60 "$to/cargo/release/examples/accounts" || failed=1; }
-has python3 "Python" && { KCAS_LIB="$to/libkcas.so" timeout 60 python3 "$top/c/examples/jobs.py" || failed=1; }
+for example in accounts pool; do
+    [ -x "$to/cargo/release/examples/$example" ] && ran "example in Rust: $example" "$to/cargo/release/examples/$example"
+done
+export KCAS_LIB="$to/libkcas.so"
+if has python3 "Python"; then
+    ran "Python: values" python3 "$top/tools/c/tests/values.py"
+    for example in jobs pool; do
+        ran "example in Python: $example" python3 "$top/c/examples/$example.py"
+    done
+fi
+unset KCAS_LIB
+"$top/tools/c/tests/installed.sh" || failed=1
 exit "$failed"

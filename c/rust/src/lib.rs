@@ -1,56 +1,58 @@
-//! Transactions on a store that threads share without a lock: safe calls over `libkcas.a`.
+//! Transactions on a store that threads share without a lock: safe calls over libkcas.
 //!
-//! A [`Caller`] is one thread's handle. It may be sent to another thread and is not shared, and each call takes it by
-//! `&mut`, so the compiler upholds what `kcas.h` asks of a program.
+//! A [`Layout`] lays structures; [`open`] opens a store of them, with a [`Caller`] for each thread; a caller commits operations, which all
+//! happen at one moment, or none.
+//!
+//! ```
+//! let mut layout = kcas::Layout::new();
+//! let jobs = layout.queue(16)?;
+//! let done = layout.location(0)?;
+//! let mut callers = kcas::open(layout.values(), 2)?;
+//! let mut worker = callers.pop().unwrap();
+//! let mut foreman = callers.pop().unwrap();
+//! let working = std::thread::spawn(move || worker.commit_waiting(&[jobs.deqw(), done.incr()]));
+//! foreman.commit(&[jobs.enq(7)])?;
+//! assert_eq!(working.join().unwrap()?[0], kcas::Reply::Value(7));
+//! # Ok::<(), kcas::Refused>(())
+//! ```
+//!
+//! A caller may be sent to another thread and is not shared, and each call takes it by `&mut`, so the compiler upholds what `kcas.h` asks
+//! of a program. It is closed as it is dropped, and the store is freed with its last caller. What a thread did before a
+//! commit that put something is seen by whoever reads what it put.
 
 use std::cell::Cell;
 use std::hint::spin_loop;
 use std::marker::PhantomData;
 use std::sync::atomic::{AtomicU32, Ordering::SeqCst};
 use std::sync::{Arc, Condvar, Mutex};
+use std::time::{Duration, Instant};
 
 mod numbers;
-pub use numbers::*;
+mod raw;
+mod refused;
+mod structures;
 
-#[repr(C)]
-struct Handle {
-    held: u32,
-    busy: u32,
-    at: *mut u8,
+pub use numbers::MOST_OPS;
+pub use refused::Refused;
+pub use structures::{
+    say, Cache, Function, Layout, Location, Mvar, Op, Promise, Queue, Relation, Stack, Table, Total,
+};
+
+use numbers::*;
+use raw::{Handle, RawReply, Seen};
+
+/// The version of the library that the program runs with, as "0.9.0".
+pub fn version() -> &'static str {
+    raw::version()
 }
 
-/// Where a structure lies.
-#[repr(C)]
+/// What an operation replied.
 #[derive(Clone, Copy, Debug, Default, PartialEq, Eq)]
-pub struct Object {
-    pub kind: u32,
-    pub base: u32,
-    pub capacity: u32,
-    pub buckets: u32,
-}
-
-/// An operation on a structure.
-#[repr(C)]
-#[derive(Clone, Copy, Debug, Default, PartialEq, Eq)]
-pub struct Op {
-    pub verb: u32,
-    pub mark: u32,
-    pub on: Object,
-    pub a: u32,
-    pub b: u32,
-}
-
-#[repr(C)]
-#[derive(Clone, Copy, Default)]
-struct RawReply {
-    kind: u32,
-    value: u32,
-}
-
-/// What an operation replied; `Nothing` where it didn't run.
-#[derive(Clone, Copy, Debug, PartialEq, Eq)]
 pub enum Reply {
+    /// It didn't run.
+    #[default]
     Nothing,
+    /// It ran, and has nothing to say.
     Unit,
     Value(u32),
     Bool(bool),
@@ -58,113 +60,29 @@ pub enum Reply {
     Full,
 }
 
-/// A call that was refused, or can't be made on this store any more, by its number in `kcas.h`.
-#[derive(Clone, Copy, Debug, PartialEq, Eq)]
-pub struct Refused(pub u32);
-
-impl std::fmt::Display for Refused {
-    fn fmt(&self, f: &mut std::fmt::Formatter<'_>) -> std::fmt::Result {
-        write!(f, "kcas answered {}", self.0)
-    }
-}
-
-impl std::error::Error for Refused {}
-
-extern "C" {
-    fn kcas_open(
-        values: *const u32,
-        count: usize,
-        callers: *mut Handle,
-        callers_count: usize,
-    ) -> u32;
-    fn kcas_close(caller: *mut Handle) -> u32;
-    fn kcas_try(
-        caller: *mut Handle,
-        ops: *const Op,
-        count: usize,
-        replies: *mut RawReply,
-        room: usize,
-        wakes: *mut u64,
-    ) -> u32;
-    fn kcas_add(
-        caller: *mut Handle,
-        location: u32,
-        number: u32,
-        before: *mut u32,
-        wakes: *mut u64,
-    ) -> u32;
-    fn kcas_read(caller: *mut Handle, location: u32, value: *mut u32, version: *mut u32) -> u32;
-    fn kcas_cells(object: *const Object) -> u32;
-    fn kcas_opening(object: *const Object, values: *mut u32, room: usize) -> u32;
-}
-
-impl Object {
-    /// A structure whose base is not known yet: [`Layout::add`] finds it.
-    pub fn new(kind: u32, capacity: u32, buckets: u32) -> Object {
-        Object {
-            kind,
-            base: 0,
-            capacity,
-            buckets,
+impl Reply {
+    fn of(raw: RawReply) -> Reply {
+        match raw.kind {
+            UNIT => Reply::Unit,
+            VALUE => Reply::Value(raw.value),
+            BOOL => Reply::Bool(raw.value != 0),
+            EMPTY => Reply::Empty,
+            FULL => Reply::Full,
+            _ => Reply::Nothing,
         }
     }
 
-    pub fn location(base: u32) -> Object {
-        Object {
-            kind: LOC,
-            base,
-            capacity: 0,
-            buckets: 0,
-        }
-    }
-
-    pub fn op(self, verb: u32, a: u32, b: u32) -> Op {
-        Op {
-            verb,
-            mark: NEXT,
-            on: self,
-            a,
-            b,
+    /// The number that it replied, if it did.
+    pub fn value(self) -> Option<u32> {
+        match self {
+            Reply::Value(value) => Some(value),
+            _ => None,
         }
     }
 }
 
-impl Op {
-    /// It begins the next alternative.
-    pub fn or(mut self) -> Op {
-        self.mark = OR;
-        self
-    }
-}
-
-/// The opening values of structures that lie one behind another.
-#[derive(Default)]
-pub struct Layout {
-    values: Vec<u32>,
-}
-
-impl Layout {
-    pub fn new() -> Layout {
-        Layout::default()
-    }
-
-    /// Lays a structure behind the others.
-    pub fn add(&mut self, mut object: Object) -> Result<Object, Refused> {
-        object.base = self.values.len() as u32;
-        let cells = unsafe { kcas_cells(&object) } as usize;
-        if cells == 0 {
-            return Err(Refused(BAD_SIZE));
-        }
-        let first = self.values.len();
-        self.values.resize(first + cells, 0);
-        unsafe { kcas_opening(&object, self.values[first..].as_mut_ptr(), cells) };
-        Ok(object)
-    }
-
-    pub fn values(&self) -> &[u32] {
-        &self.values
-    }
-}
+/// The replies of a transaction: first those of the operations that ran, in order.
+pub type Replies = [Reply; MOST_OPS];
 
 #[derive(Default)]
 struct Bell {
@@ -189,47 +107,40 @@ unsafe impl Send for Caller {}
 
 impl Drop for Caller {
     fn drop(&mut self) {
-        unsafe { kcas_close(&mut self.handle.0) };
+        unsafe { raw::kcas_close(&mut self.handle.0) };
     }
 }
 
-/// A store with these values, and so many callers of it.
+/// A store with these values, at most 65,536, and so many callers of it, 1 to 64.
 pub fn open(values: &[u32], callers: usize) -> Result<Vec<Caller>, Refused> {
-    let mut handles: Vec<Handle> = (0..callers)
-        .map(|_| Handle {
-            held: 0,
-            busy: 0,
-            at: std::ptr::null_mut(),
-        })
-        .collect();
-    match unsafe { kcas_open(values.as_ptr(), values.len(), handles.as_mut_ptr(), callers) } {
+    let mut handles: Vec<Handle> = (0..callers).map(|_| Handle::CLOSED).collect();
+    match unsafe { raw::kcas_open(values.as_ptr(), values.len(), handles.as_mut_ptr(), callers) } {
         DONE => {
             let bell = Arc::new(Bell::default());
-            Ok(handles
-                .into_iter()
-                .map(|handle| Caller {
-                    handle: Box::new(Alone(handle)),
-                    bell: bell.clone(),
-                    _one_thread: PhantomData,
-                })
-                .collect())
+            let caller = |handle| Caller {
+                handle: Box::new(Alone(handle)),
+                bell: bell.clone(),
+                _one_thread: PhantomData,
+            };
+            Ok(handles.into_iter().map(caller).collect())
         }
-        answer => Err(Refused(answer)),
+        answer => Err(Refused::of(answer)),
     }
 }
 
 impl Caller {
-    /// The replies of the operations that ran, or None where the transaction would wait.
-    pub fn commit(&mut self, ops: &[Op]) -> Result<Option<[Reply; MOST_OPS]>, Refused> {
-        let mut raw = [RawReply::default(); MOST_OPS];
+    /// The replies of the operations that ran, or `None` where the transaction would wait.
+    pub fn commit(&mut self, ops: &[Op]) -> Result<Option<Replies>, Refused> {
+        let mut replies = [RawReply::default(); MOST_OPS];
         loop {
             let mut wakes = 0;
+            let handle = &mut self.handle.0;
             match unsafe {
-                kcas_try(
-                    &mut self.handle.0,
+                raw::kcas_try(
+                    handle,
                     ops.as_ptr(),
                     ops.len(),
-                    raw.as_mut_ptr(),
+                    replies.as_mut_ptr(),
                     MOST_OPS,
                     &mut wakes,
                 )
@@ -237,36 +148,73 @@ impl Caller {
                 DONE => break,
                 LATER => return Ok(None),
                 LOST | BUSY => spin_loop(),
-                answer => return Err(Refused(answer)),
+                BAD_OPS => return Err(self.bad_ops(ops)),
+                answer => return Err(Refused::of(answer)),
             }
         }
         self.ring();
-        Ok(Some(raw.map(Reply::of)))
+        Ok(Some(replies.map(Reply::of)))
     }
 
     /// The same, and it waits where it would have to.
-    pub fn commit_waiting(&mut self, ops: &[Op]) -> Result<[Reply; MOST_OPS], Refused> {
+    pub fn commit_waiting(&mut self, ops: &[Op]) -> Result<Replies, Refused> {
         loop {
-            if let Some(replies) = self.commit(ops)? {
-                return Ok(replies);
-            }
-            self.bell.waiters.fetch_add(1, SeqCst);
-            let seen = *self.bell.changes.lock().expect("no holder panics");
-            let tried = self.commit(ops);
-            if let Ok(None) = tried {
-                let now = self.bell.changes.lock().expect("no holder panics");
-                drop(
-                    self.bell
-                        .changed
-                        .wait_while(now, |now| *now == seen)
-                        .expect("no holder panics"),
-                );
-            }
-            self.bell.waiters.fetch_sub(1, SeqCst);
-            if let Some(replies) = tried? {
+            if let Some(replies) = self.commit_before(ops, None)? {
                 return Ok(replies);
             }
         }
+    }
+
+    /// The same, and it waits so long at most: `None` where it would still wait then.
+    pub fn commit_timeout(
+        &mut self,
+        ops: &[Op],
+        limit: Duration,
+    ) -> Result<Option<Replies>, Refused> {
+        match Instant::now().checked_add(limit) {
+            Some(deadline) => self.commit_before(ops, Some(deadline)),
+            None => self.commit_waiting(ops).map(Some),
+        }
+    }
+
+    fn commit_before(
+        &mut self,
+        ops: &[Op],
+        deadline: Option<Instant>,
+    ) -> Result<Option<Replies>, Refused> {
+        let mut tried = self.commit(ops)?;
+        while tried.is_none() && deadline.map_or(true, |deadline| Instant::now() < deadline) {
+            self.bell.waiters.fetch_add(1, SeqCst);
+            let seen = *self.bell.changes.lock().expect("no holder panics");
+            let again = self.commit(ops);
+            if let Ok(None) = again {
+                self.bell.wait(seen, deadline);
+            }
+            self.bell.waiters.fetch_sub(1, SeqCst);
+            tried = again?;
+            if tried.is_none() {
+                tried = self.commit(ops)?;
+            }
+        }
+        Ok(tried)
+    }
+
+    /// Commits these operations where all that the last commit read has still the values that it had then, and else `None`: then look again,
+    /// and compute anew. So one looks by `commit` or `commit_waiting`, computes, and acts by this. Refused as
+    /// [`Refused::BadOps`] where reads and operations are more than 16 together, or there is an alternative among them.
+    pub fn commit_as_seen(&mut self, ops: &[Op]) -> Result<Option<Replies>, Refused> {
+        let mut seen = [Seen::default(); MOST_OPS + 1];
+        let reads = unsafe { raw::kcas_reads(&mut self.handle.0, seen.as_mut_ptr(), seen.len()) };
+        if reads + ops.len() > MOST_OPS || ops.iter().any(Op::begins_an_alternative) {
+            return Err(Refused::BadOps(None));
+        }
+        let unchanged = seen[..reads]
+            .iter()
+            .map(|it| Location::at(it.location).check(Relation::Eq, it.value));
+        let all: Vec<Op> = unchanged.chain(ops.iter().copied()).collect();
+        let told = self.commit(&all)?;
+        Ok(told
+            .map(|told| std::array::from_fn(|i| told.get(reads + i).copied().unwrap_or_default())))
     }
 
     /// One operation, and its reply.
@@ -275,13 +223,13 @@ impl Caller {
     }
 
     /// Adds to one location, which wraps, and answers the value before. It costs less than an operation.
-    pub fn add(&mut self, location: u32, number: u32) -> Result<u32, Refused> {
+    pub fn add(&mut self, location: Location, number: u32) -> Result<u32, Refused> {
         let (mut before, mut wakes) = (0, 0);
         loop {
             match unsafe {
-                kcas_add(
+                raw::kcas_add(
                     &mut self.handle.0,
-                    location,
+                    location.base(),
                     number,
                     &mut before,
                     &mut wakes,
@@ -289,7 +237,7 @@ impl Caller {
             } {
                 DONE => break,
                 LOST | BUSY => spin_loop(),
-                answer => return Err(Refused(answer)),
+                answer => return Err(Refused::of(answer)),
             }
         }
         self.ring();
@@ -297,15 +245,30 @@ impl Caller {
     }
 
     /// The value of a location, without a transaction.
-    pub fn read(&mut self, location: u32) -> Result<u32, Refused> {
+    pub fn read(&mut self, location: Location) -> Result<u32, Refused> {
         let (mut value, mut version) = (0, 0);
         loop {
-            match unsafe { kcas_read(&mut self.handle.0, location, &mut value, &mut version) } {
+            match unsafe {
+                raw::kcas_read(
+                    &mut self.handle.0,
+                    location.base(),
+                    &mut value,
+                    &mut version,
+                )
+            } {
                 DONE => return Ok(value),
                 BUSY => spin_loop(),
-                answer => return Err(Refused(answer)),
+                answer => return Err(Refused::of(answer)),
             }
         }
+    }
+
+    fn bad_ops(&mut self, ops: &[Op]) -> Refused {
+        // No caller of this crate hangs, so nobody has to be woken.
+        let mut wakes = 0;
+        let at =
+            unsafe { raw::kcas_bad_op(&mut self.handle.0, ops.as_ptr(), ops.len(), &mut wakes) };
+        Refused::BadOps((at < ops.len()).then_some(at))
     }
 
     fn ring(&self) {
@@ -316,15 +279,25 @@ impl Caller {
     }
 }
 
-impl Reply {
-    fn of(raw: RawReply) -> Reply {
-        match raw.kind {
-            1 => Reply::Unit,
-            2 => Reply::Value(raw.value),
-            3 => Reply::Bool(raw.value != 0),
-            4 => Reply::Empty,
-            5 => Reply::Full,
-            _ => Reply::Nothing,
+impl Bell {
+    // Sleeps until there was a change behind those that were seen, or the deadline is there.
+    fn wait(&self, seen: u64, deadline: Option<Instant>) {
+        let now = self.changes.lock().expect("no holder panics");
+        let still = |now: &mut u64| *now == seen;
+        match deadline {
+            None => drop(
+                self.changed
+                    .wait_while(now, still)
+                    .expect("no holder panics"),
+            ),
+            Some(deadline) => {
+                let left = deadline.saturating_duration_since(Instant::now());
+                drop(
+                    self.changed
+                        .wait_timeout_while(now, left, still)
+                        .expect("no holder panics"),
+                );
+            }
         }
     }
 }

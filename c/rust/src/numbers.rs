@@ -78,11 +78,16 @@ pub const WORN: u32 = 3;
 pub const POOL_WORN: u32 = 4;
 pub const LOST: u32 = 5;
 pub const BUSY: u32 = 6;
-pub const CLOSED: u32 = 16;
-pub const IS_OPEN: u32 = 17;
 pub const BAD_OPS: u32 = 18;
 pub const NO_MEMORY: u32 = 19;
 pub const BAD_SIZE: u32 = 20;
-pub const NOT_NOW: u32 = 21;
 
+// Kinds of replies; what isn't one of these is none.
+pub const UNIT: u32 = 1;
+pub const VALUE: u32 = 2;
+pub const BOOL: u32 = 3;
+pub const EMPTY: u32 = 4;
+pub const FULL: u32 = 5;
+
+/// How many operations a transaction may have.
 pub const MOST_OPS: usize = 16;
