@@ -15,7 +15,7 @@ DESTDIR="$room/stage" LIBDIR=/usr/lib/here "$top/tools/c/install.sh" /usr > /dev
 grep -q '^libdir=/usr/lib/here$' "$room/stage/usr/lib/here/pkgconfig/kcas.pc" || fail "DESTDIR"
 [ -z "$(grep -r "$room" "$room/stage/usr/lib/here/pkgconfig" "$room/stage/usr/lib/here/cmake")" ] || fail "DESTDIR"
 
-prefix="$room/a prefix"
+prefix="$room/prefix"
 if has make "make install"; then
     make -s -C "$top/c" install PREFIX="$prefix" > /dev/null
 else

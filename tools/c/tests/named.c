@@ -55,7 +55,7 @@ static void places(uint32_t size) {
     }
     kcas_op first_is_or[] = { kcas_or(good[1]) }, five[16];
     CLAIM(wrong(first_is_or, 1) == 0);
-    for (int i = 0; i < 16; i++) five[i] = i >= 3 && i <= 6 ? kcas_or(good[1]) : good[1];
+    for (int i = 0; i < 16; i++) five[i] = i >= 3 && i <= 5 ? kcas_or(good[1]) : good[1];
     CLAIM(wrong(five, 16) == 16);
     five[9] = kcas_or(good[1]);
     CLAIM(wrong(five, 16) == 9 && kcas_try(&callers[0], five, 16, replies, 16, &wakes) == KCAS_BAD_OPS);
