@@ -17,6 +17,9 @@
  * - a pointer has as many elements behind it as is said, and replies and ops don't overlap;
  * - no call from a signal handler, nor in a child between fork and exec;
  * - all who commit on a store by which some wait use that store's one bell.
+ *
+ * What a thread did before a commit that put something is seen by a thread behind its try that read what was put, or a later value there:
+ * so plain memory may be handed on by a number in the store.
  */
 #ifndef KCAS_H
 #define KCAS_H
@@ -490,11 +493,11 @@ static inline uint32_t kcas_commit_add(kcas_bell *bell, kcas_caller *caller, uin
     return answer;
 }
 
-/* And waits where it would have to, until a deadline by the monotonic clock: KCAS_LATER only behind it. It tries at least once, and wakes at
- * each commit on the store by the same bell. NULL for `until`: it waits on. */
+/* And waits where it would have to, until a deadline by the monotonic clock (kcas_in makes one): KCAS_LATER only behind it. It tries at least
+ * once, and wakes at each commit on the store by the same bell. NULL for `until`: it waits on. NULL for the bell: it doesn't wait. */
 static inline uint32_t kcas_commit_until(kcas_bell *bell, kcas_caller *caller, const kcas_op *ops, size_t count, kcas_reply *replies, size_t room, const struct timespec *until) {
     uint32_t answer = kcas_commit(bell, caller, ops, count, replies, room);
-    while (answer == KCAS_LATER && !kcas_is_past(until)) {
+    while (bell && answer == KCAS_LATER && !kcas_is_past(until)) {
         kcas_plus(&bell->waiters, 1);
         uint32_t seen = kcas_load(&bell->changes);
         answer = kcas_commit(bell, caller, ops, count, replies, room);
@@ -505,7 +508,7 @@ static inline uint32_t kcas_commit_until(kcas_bell *bell, kcas_caller *caller, c
     return answer;
 }
 
-/* And waits where it would have to: never KCAS_LATER. */
+/* And waits where it would have to: with a bell never KCAS_LATER. */
 static inline uint32_t kcas_commit_waiting(kcas_bell *bell, kcas_caller *caller, const kcas_op *ops, size_t count, kcas_reply *replies, size_t room) {
     return kcas_commit_until(bell, caller, ops, count, replies, room, NULL);
 }
@@ -533,7 +536,7 @@ static inline void kcas_hang_on(kcas_bell *bell, kcas_caller *caller) { kcas_han
  * to those who commit elsewhere. */
 static inline uint32_t kcas_commit_hanging_until(kcas_bell *bell, kcas_caller *caller, const kcas_op *ops, size_t count, kcas_reply *replies, size_t room, const struct timespec *until) {
     uint32_t answer = kcas_commit(bell, caller, ops, count, replies, room);
-    while (answer == KCAS_LATER && !kcas_is_past(until)) {
+    while (bell && answer == KCAS_LATER && !kcas_is_past(until)) {
         kcas_hang_until(bell, caller, until);
         answer = kcas_commit(bell, caller, ops, count, replies, room);
     }
@@ -640,8 +643,8 @@ static inline uint32_t kcas_wait_in(kcas_bell *bell, kcas_log *log) {
 
 /* Runs the body until what it read stood at one moment, and then makes its writes at that moment: KCAS_DONE. The body has no
  * effects but by kcas_write, may run many times, and ends by itself on any values. Where it answers KCAS_WAIT it runs again
- * once something was changed; where KCAS_STOP, nothing is written: KCAS_LATER. KCAS_BAD_OPS for more than 16 reads and writes, a
- * location outside, or a wait on nothing; or as kcas_try. */
+ * once something was changed; where KCAS_STOP, or KCAS_WAIT without a bell, nothing is written: KCAS_LATER. KCAS_BAD_OPS for more
+ * than 16 reads and writes, a location outside, a wait on nothing, or another wish than these three; or as kcas_try. */
 static inline uint32_t kcas_run(kcas_bell *bell, kcas_caller *caller, uint32_t (*body)(kcas_log *log, void *with), void *with) {
     for (;;) {
         kcas_log log;
@@ -650,10 +653,11 @@ static inline uint32_t kcas_run(kcas_bell *bell, kcas_caller *caller, uint32_t (
         log.caller = caller;
         uint32_t wish = body(&log, with), answer;
         if (log.failed) return log.failed;
-        if (wish == KCAS_WAIT) {
+        if (wish > KCAS_STOP) return KCAS_BAD_OPS;
+        if (wish == KCAS_WAIT && bell) {
             answer = kcas_wait_in(bell, &log);
             if (answer != KCAS_DONE && answer != KCAS_LATER) return answer;
-        } else if (wish == KCAS_STOP) {
+        } else if (wish != KCAS_COMMIT) {
             answer = kcas_still(bell, &log);
             if (answer != KCAS_LATER) return answer == KCAS_DONE ? (uint32_t)KCAS_LATER : answer;
         } else {

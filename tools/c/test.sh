@@ -50,6 +50,10 @@ try "thread sanitizer" gcc -fsanitize=thread
 # The header tells this one what its own tries have written; the other tests call the library themselves.
 tests="sums waits soak deadlines handed"
 try "memory sanitizer" clang -fsanitize=memory
+if has g++ "C++"; then
+    g++ -std=c++17 -g -O1 -Wall -Wextra -Werror -I "$top/c" "$top/tools/c/tests/classes.cc" "$to/libkcas.a" -pthread -o "$room/classes"
+    ran "C++: classes" "$room/classes"
+fi
 for example in accounts pool jobs-cc pool-cc; do
     [ -x "$to/$example" ] && ran "example: $example" "$to/$example"
 done

@@ -134,10 +134,29 @@ static void structures(void) {
     CLAIM(kcas_close(&one_caller[0]) == KCAS_DONE);
 }
 
+/* A body that writes and then wishes what it is told. */
+static uint32_t wishes(kcas_log *log, void *wish) {
+    kcas_write(log, 0, kcas_read_in(log, 0) + 1);
+    return *(uint32_t *)wish;
+}
+
+/* Without a bell nobody waits; an unknown wish does nothing. */
+static void without_a_bell(void) {
+    uint32_t wish = KCAS_COMMIT, before = value_at(0);
+    kcas_op never = kcas_check(0, KCAS_LT, 0);
+    CLAIM(kcas_run(NULL, &a[0], wishes, &wish) == KCAS_DONE && value_at(0) == before + 1);
+    for (wish = KCAS_WAIT; wish <= KCAS_STOP; wish++) CLAIM(kcas_run(NULL, &a[0], wishes, &wish) == KCAS_LATER);
+    CLAIM(kcas_run(NULL, &a[0], wishes, &wish) == KCAS_BAD_OPS);
+    wish = 0xffffffff;
+    CLAIM(kcas_run(NULL, &a[0], wishes, &wish) == KCAS_BAD_OPS && value_at(0) == before + 1);
+    CLAIM(kcas_commit_waiting(NULL, &a[0], &never, 1, replies, 1) == KCAS_LATER && kcas_commit_hanging(NULL, &a[0], &never, 1, replies, 1) == KCAS_LATER);
+}
+
 int main(int argc, char **argv) {
     uint32_t values[3] = { 1, 2, 3 };
     refusals();
     alternatives();
+    without_a_bell();
     alone();
     structures();
     CLAIM(kcas_close(&a[0]) == KCAS_DONE && kcas_close(&a[0]) == KCAS_CLOSED && kcas_close(&a[1]) == KCAS_DONE);
