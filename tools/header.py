@@ -82,8 +82,10 @@ LISTS = {"VERBS": "", "KINDS": "", "FUNCTIONS": "FUN_", "RELATIONS": "", "REPLIE
 
 
 def in_python():
-    """The numbers of the wrapper in Python: each word has its place in its list, from 1 on."""
+    """The numbers of the wrapper in Python: its own, and each word's place in its list, from 1 on."""
     found = {}
+    for names, numbers in re.findall(r"^([A-Z_]+(?:, [A-Z_]+)*) = (\d+(?:, \d+)*)$", text_of("c/python/kcas/__init__.py"), re.M):
+        found.update(zip(names.split(", "), map(int, numbers.split(", "))))
     for node in ast.parse(text_of("c/python/kcas/_numbers.py")).body:
         if isinstance(node, ast.Assign):
             before = LISTS[node.targets[0].id]

@@ -28,6 +28,7 @@ from . import _numbers
 __version__ = "0.9.0"
 
 DONE, LATER, LOST, BUSY, BAD_OPS, BAD_SIZE = 0, 1, 5, 6, 18, 20
+GOING, HUNG, LEAVING, QUIET = 32, 33, 34, 36
 MOST_OPS, MOST_ALTERNATIVES = 16, 4
 
 _VERBS, _KINDS, _FUNCTIONS, _RELATIONS = (
@@ -109,6 +110,11 @@ def _library() -> ctypes.CDLL:
         ("add", word, [handle, word, word, words, wakes]),
         ("read", word, [handle, word, words, words]),
         ("reads", size, [handle, ctypes.POINTER(_Seen), size]),
+        ("number", word, [handle]),
+        ("hang", word, [handle]),
+        ("hang_step", word, [handle]),
+        ("signalled", word, [handle]),
+        ("leave", word, [handle]),
     ):
         call = getattr(lib, "kcas_" + name)
         call.restype, call.argtypes = result, arguments
@@ -430,19 +436,6 @@ class Layout:
         return Acc(self._add("acc", cells))
 
 
-class _Bell:
-    def __init__(self) -> None:
-        self.waiters = 0
-        self.changes = 0
-        self.changed = threading.Condition()
-
-    def ring(self) -> None:
-        if self.waiters:
-            with self.changed:
-                self.changes += 1
-                self.changed.notify_all()
-
-
 def _left(deadline: Optional[float]) -> Optional[float]:
     """The seconds to the deadline: at most those that a wait of Python's may take."""
     return None if deadline is None else max(0.0, min(deadline - time.monotonic(), threading.TIMEOUT_MAX))
@@ -451,9 +444,12 @@ def _left(deadline: Optional[float]) -> Optional[float]:
 class Caller:
     """One thread's handle on a store."""
 
-    def __init__(self, handle: _Handle, bell: _Bell):
+    def __init__(self, handle: _Handle, seats: List[threading.Condition]):
         self._handle = handle
-        self._bell = bell
+        self._number = _lib.kcas_number(handle)
+        # Where each caller of the store sleeps that hangs. A signal is set in the store before its seat is notified, and is looked for with the
+        # seat held: so no wake is lost.
+        self._seats = seats
         self._replies = (_Reply * MOST_OPS)()
         self._wakes = ctypes.c_uint64()
         self._before = ctypes.c_uint32()
@@ -475,17 +471,18 @@ class Caller:
             at += len(alternative)
         while True:
             answer = _lib.kcas_try(ctypes.byref(self._handle), array, len(ops), self._replies, MOST_OPS, ctypes.byref(self._wakes))
+            self._wake()
             if answer not in (LOST, BUSY):
                 break
         if answer == LATER:
             return None
         if answer == BAD_OPS:
             wrong = _lib.kcas_bad_op(ctypes.byref(self._handle), array, len(ops), ctypes.byref(self._wakes))
+            self._wake()
             named = [op for alternative in alternatives for op in alternative][wrong:]
             raise BadOps("operation %d, %r, is none of this store" % (wrong, named[0]) if named else "no transaction of this store", wrong if named else None)
         if answer != DONE:
             raise Refused(answer)
-        self._bell.ring()
         return [reply.told() for reply in self._replies[: len(ops)] if reply.kind != 0]
 
     def add(self, location: Loc, number: int) -> int:
@@ -495,11 +492,11 @@ class Caller:
         added = _added(number)
         while True:
             answer = _lib.kcas_add(ctypes.byref(self._handle), location.base, added, ctypes.byref(self._before), ctypes.byref(self._wakes))
+            self._wake()
             if answer not in (LOST, BUSY):
                 break
         if answer != DONE:
             raise Refused(answer)
-        self._bell.ring()
         return self._before.value
 
     def read(self, location: Loc) -> int:
@@ -522,29 +519,38 @@ class Caller:
     def first_waiting(self, *alternatives: Sequence[Op], timeout: Optional[float] = None) -> List[Reply]:
         """The same, and it waits where all of them would have to; no longer than so many seconds, and then it raises Waits."""
         deadline = None if timeout is None else time.monotonic() + timeout
-        told = self._try(alternatives)
-        while told is None:
-            if _left(deadline) == 0:
-                raise Waits
-            told = self._wait(alternatives, deadline)
-        return told
-
-    def _wait(self, alternatives: Sequence[Sequence[Op]], deadline: Optional[float]) -> Optional[List[Reply]]:
-        """Tries once more, and once again behind the next change where it would still wait."""
-        bell = self._bell
-        with bell.changed:
-            bell.waiters += 1
-            seen = bell.changes
-        try:
+        while True:
             told = self._try(alternatives)
             if told is not None:
                 return told
-            with bell.changed:
-                bell.changed.wait_for(lambda: bell.changes != seen, _left(deadline))
+            if _left(deadline) == 0:
+                raise Waits
+            self._hang(deadline)
+
+    def _hang(self, deadline: Optional[float]) -> None:
+        """Sleeps until something changes of what the last try read, or the deadline is there."""
+        handle, seat = ctypes.byref(self._handle), self._seats[self._number]
+        step = _lib.kcas_hang(handle)
+        while step == GOING:
+            step = _lib.kcas_hang_step(handle)
+        if step != HUNG:
+            return
+        try:
+            with seat:
+                seat.wait_for(lambda: _lib.kcas_signalled(handle) != QUIET, _left(deadline))
         finally:
-            with bell.changed:
-                bell.waiters -= 1
-        return self._try(alternatives)
+            step = _lib.kcas_leave(handle)
+            while step == LEAVING:
+                step = _lib.kcas_hang_step(handle)
+
+    def _wake(self) -> None:
+        """Wakes those whose hangs the last try has ended."""
+        wakes = self._wakes.value
+        while wakes:
+            seat = self._seats[wakes.bit_length() - 1]
+            with seat:
+                seat.notify()
+            wakes ^= 1 << wakes.bit_length() - 1
 
     def commit(self, *ops: Op) -> List[Reply]:
         """The operations as one transaction."""
@@ -574,8 +580,8 @@ def open(layout: Layout, callers: int = 1) -> Iterator[List[Caller]]:
     answer = _lib.kcas_open(values, len(values), handles, callers)
     if answer != DONE:
         raise Refused(answer)
-    bell = _Bell()
-    made = [Caller(handle, bell) for handle in handles]
+    seats = [threading.Condition() for _ in handles]
+    made = [Caller(handle, seats) for handle in handles]
     try:
         yield made
     finally:

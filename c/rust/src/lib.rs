@@ -23,7 +23,6 @@
 use std::cell::Cell;
 use std::hint::spin_loop;
 use std::marker::PhantomData;
-use std::sync::atomic::{AtomicU32, Ordering::SeqCst};
 use std::sync::{Arc, Condvar, Mutex};
 use std::time::{Duration, Instant};
 
@@ -84,11 +83,19 @@ impl Reply {
 /// The replies of a transaction: first those of the operations that ran, in order.
 pub type Replies = [Reply; MOST_OPS];
 
+// Where a caller sleeps that hangs. A signal is set in the store before its seat is woken, and is looked for with the seat locked: so no
+// wake is lost.
 #[derive(Default)]
-struct Bell {
-    waiters: AtomicU32,
-    changes: Mutex<u64>,
-    changed: Condvar,
+struct Seat {
+    looking: Mutex<()>,
+    woken: Condvar,
+}
+
+impl Seat {
+    fn wake(&self) {
+        drop(self.looking.lock().expect("no holder panics"));
+        self.woken.notify_one();
+    }
 }
 
 // Each call writes to its handle, so handles of two threads may not lie in one line of a cache.
@@ -98,7 +105,8 @@ struct Alone(Handle);
 /// One caller of a store.
 pub struct Caller {
     handle: Box<Alone>,
-    bell: Arc<Bell>,
+    number: usize,
+    seats: Arc<[Seat]>,
     _one_thread: PhantomData<Cell<()>>,
 }
 
@@ -116,10 +124,11 @@ pub fn open(values: &[u32], callers: usize) -> Result<Vec<Caller>, Refused> {
     let mut handles: Vec<Handle> = (0..callers).map(|_| Handle::CLOSED).collect();
     match unsafe { raw::kcas_open(values.as_ptr(), values.len(), handles.as_mut_ptr(), callers) } {
         DONE => {
-            let bell = Arc::new(Bell::default());
-            let caller = |handle| Caller {
+            let seats: Arc<[Seat]> = (0..callers).map(|_| Seat::default()).collect();
+            let caller = |mut handle| Caller {
+                number: unsafe { raw::kcas_number(&mut handle) } as usize,
                 handle: Box::new(Alone(handle)),
-                bell: bell.clone(),
+                seats: seats.clone(),
                 _one_thread: PhantomData,
             };
             Ok(handles.into_iter().map(caller).collect())
@@ -133,27 +142,25 @@ impl Caller {
     pub fn commit(&mut self, ops: &[Op]) -> Result<Option<Replies>, Refused> {
         let mut replies = [RawReply::default(); MOST_OPS];
         loop {
-            let mut wakes = 0;
-            let handle = &mut self.handle.0;
-            match unsafe {
-                raw::kcas_try(
-                    handle,
-                    ops.as_ptr(),
-                    ops.len(),
-                    replies.as_mut_ptr(),
-                    MOST_OPS,
-                    &mut wakes,
-                )
-            } {
-                DONE => break,
+            match self.try_once(ops, &mut replies) {
+                DONE => return Ok(Some(replies.map(Reply::of))),
                 LATER => return Ok(None),
                 LOST | BUSY => spin_loop(),
                 BAD_OPS => return Err(self.bad_ops(ops)),
                 answer => return Err(Refused::of(answer)),
             }
         }
-        self.ring();
-        Ok(Some(replies.map(Reply::of)))
+    }
+
+    // One try, and whose hangs it ended are woken.
+    fn try_once(&mut self, ops: &[Op], replies: &mut [RawReply; MOST_OPS]) -> u32 {
+        let mut wakes = 0;
+        let handle = &mut self.handle.0;
+        let (first, room) = (replies.as_mut_ptr(), replies.len());
+        let answer =
+            unsafe { raw::kcas_try(handle, ops.as_ptr(), ops.len(), first, room, &mut wakes) };
+        self.wake(wakes);
+        answer
     }
 
     /// The same, and it waits where it would have to.
@@ -182,21 +189,45 @@ impl Caller {
         ops: &[Op],
         deadline: Option<Instant>,
     ) -> Result<Option<Replies>, Refused> {
-        let mut tried = self.commit(ops)?;
-        while tried.is_none() && deadline.map_or(true, |deadline| Instant::now() < deadline) {
-            self.bell.waiters.fetch_add(1, SeqCst);
-            let seen = *self.bell.changes.lock().expect("no holder panics");
-            let again = self.commit(ops);
-            if let Ok(None) = again {
-                self.bell.wait(seen, deadline);
+        loop {
+            let tried = self.commit(ops)?;
+            if tried.is_some() || deadline.is_some_and(|deadline| Instant::now() >= deadline) {
+                return Ok(tried);
             }
-            self.bell.waiters.fetch_sub(1, SeqCst);
-            tried = again?;
-            if tried.is_none() {
-                tried = self.commit(ops)?;
-            }
+            self.hang(deadline);
         }
-        Ok(tried)
+    }
+
+    // Sleeps until something changes of what the last try read, or the deadline is there.
+    fn hang(&mut self, deadline: Option<Instant>) {
+        let handle: *mut Handle = &mut self.handle.0;
+        let mut step = unsafe { raw::kcas_hang(handle) };
+        while step == GOING {
+            step = unsafe { raw::kcas_hang_step(handle) };
+        }
+        if step != HUNG {
+            return;
+        }
+        let seat = &self.seats[self.number];
+        let mut looking = seat.looking.lock().expect("no holder panics");
+        while unsafe { raw::kcas_signalled(handle) } == QUIET {
+            looking =
+                match deadline.map(|deadline| deadline.saturating_duration_since(Instant::now())) {
+                    Some(Duration::ZERO) => break,
+                    Some(left) => {
+                        seat.woken
+                            .wait_timeout(looking, left)
+                            .expect("no holder panics")
+                            .0
+                    }
+                    None => seat.woken.wait(looking).expect("no holder panics"),
+                };
+        }
+        drop(looking);
+        step = unsafe { raw::kcas_leave(handle) };
+        while step == LEAVING {
+            step = unsafe { raw::kcas_hang_step(handle) };
+        }
     }
 
     /// Commits these operations where all that the last commit read has still the values that it had then, and else `None`: then look again,
@@ -226,22 +257,16 @@ impl Caller {
     pub fn add(&mut self, location: Location, number: u32) -> Result<u32, Refused> {
         let (mut before, mut wakes) = (0, 0);
         loop {
-            match unsafe {
-                raw::kcas_add(
-                    &mut self.handle.0,
-                    location.base(),
-                    number,
-                    &mut before,
-                    &mut wakes,
-                )
-            } {
-                DONE => break,
+            let handle = &mut self.handle.0;
+            let answer =
+                unsafe { raw::kcas_add(handle, location.base(), number, &mut before, &mut wakes) };
+            self.wake(wakes);
+            match answer {
+                DONE => return Ok(before),
                 LOST | BUSY => spin_loop(),
                 answer => return Err(Refused::of(answer)),
             }
         }
-        self.ring();
-        Ok(before)
     }
 
     /// The value of a location, without a transaction.
@@ -264,40 +289,18 @@ impl Caller {
     }
 
     fn bad_ops(&mut self, ops: &[Op]) -> Refused {
-        // No caller of this crate hangs, so nobody has to be woken.
         let mut wakes = 0;
         let at =
             unsafe { raw::kcas_bad_op(&mut self.handle.0, ops.as_ptr(), ops.len(), &mut wakes) };
+        self.wake(wakes);
         Refused::BadOps((at < ops.len()).then_some(at))
     }
 
-    fn ring(&self) {
-        if self.bell.waiters.load(SeqCst) != 0 {
-            *self.bell.changes.lock().expect("no holder panics") += 1;
-            self.bell.changed.notify_all();
-        }
-    }
-}
-
-impl Bell {
-    // Sleeps until there was a change behind those that were seen, or the deadline is there.
-    fn wait(&self, seen: u64, deadline: Option<Instant>) {
-        let now = self.changes.lock().expect("no holder panics");
-        let still = |now: &mut u64| *now == seen;
-        match deadline {
-            None => drop(
-                self.changed
-                    .wait_while(now, still)
-                    .expect("no holder panics"),
-            ),
-            Some(deadline) => {
-                let left = deadline.saturating_duration_since(Instant::now());
-                drop(
-                    self.changed
-                        .wait_timeout_while(now, left, still)
-                        .expect("no holder panics"),
-                );
-            }
+    // Wakes those whose hangs a try has ended.
+    fn wake(&self, mut wakes: u64) {
+        while wakes != 0 {
+            self.seats[wakes.trailing_zeros() as usize].wake();
+            wakes &= wakes - 1;
         }
     }
 }

@@ -82,6 +82,12 @@ pub const BAD_OPS: u32 = 18;
 pub const NO_MEMORY: u32 = 19;
 pub const BAD_SIZE: u32 = 20;
 
+// Answers of a hang.
+pub const GOING: u32 = 32;
+pub const HUNG: u32 = 33;
+pub const LEAVING: u32 = 34;
+pub const QUIET: u32 = 36;
+
 // Kinds of replies; what isn't one of these is none.
 pub const UNIT: u32 = 1;
 pub const VALUE: u32 = 2;

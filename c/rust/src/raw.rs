@@ -63,6 +63,11 @@ extern "C" {
     pub fn kcas_reads(caller: *mut Handle, reads: *mut Seen, room: usize) -> usize;
     pub fn kcas_bad_op(caller: *mut Handle, ops: *const Op, count: usize, wakes: *mut u64)
         -> usize;
+    pub fn kcas_number(caller: *mut Handle) -> u32;
+    pub fn kcas_hang(caller: *mut Handle) -> u32;
+    pub fn kcas_hang_step(caller: *mut Handle) -> u32;
+    pub fn kcas_signalled(caller: *mut Handle) -> u32;
+    pub fn kcas_leave(caller: *mut Handle) -> u32;
     pub fn kcas_cells(object: *const Object) -> u32;
     pub fn kcas_opening(object: *const Object, values: *mut u32, room: usize) -> u32;
     fn kcas_version() -> *const c_char;
