@@ -150,3 +150,33 @@ fn acts_only_on_what_was_seen() {
         Err(Refused::BadOps(None))
     );
 }
+
+#[test]
+fn no_wake_is_lost() {
+    const EACH: u32 = 5000;
+    let mut layout = Layout::new();
+    let (queue, sum) = (layout.queue(2).unwrap(), layout.location(0).unwrap());
+    let mut callers = open(layout.values(), 5).unwrap();
+    let mut looker = callers.pop().unwrap();
+    let room = queue.length().check(Relation::Lt, 2);
+    std::thread::scope(|scope| {
+        for (me, mut caller) in callers.into_iter().enumerate() {
+            scope.spawn(move || {
+                for i in 0..EACH {
+                    if me % 2 == 0 {
+                        caller.commit_waiting(&[room, queue.enq(i)]).unwrap();
+                    } else {
+                        // Some deadlines come before an item does.
+                        let limit = Duration::from_micros(u64::from(i) % 50);
+                        let taken = caller.commit_timeout(&[queue.deqw()], limit).unwrap();
+                        let taken = taken
+                            .unwrap_or_else(|| caller.commit_waiting(&[queue.deqw()]).unwrap());
+                        caller.add(sum, taken[0].value().unwrap()).unwrap();
+                    }
+                }
+            });
+        }
+    });
+    assert_eq!(looker.read(sum), Ok(EACH * (EACH - 1)));
+    assert_eq!(looker.one(queue.deq()), Ok(Some(Reply::Empty)));
+}

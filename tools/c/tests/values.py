@@ -84,6 +84,30 @@ with kcas.open(layout, callers=2) as (one, other):
     assert one.commit_as_seen(y.xchg(seen), y.get()) == [1, 1]
     raises(ValueError, lambda: one.commit_as_seen(*[x.get()] * 16), "16 operations")
 
+# No wake is lost, with deadlines that come before an item does.
+EACH = 1000
+small, sums = kcas.Layout(), []
+items = small.queue(2)
+with kcas.open(small, callers=4) as callers:
+
+    def put(caller):
+        for i in range(EACH):
+            caller.commit_waiting(items.length.check("lt", 2), items.enq(i))
+
+    def take(caller):
+        for i in range(EACH):
+            try:
+                sums.append(caller.commit_waiting(items.deqw(), timeout=i % 20 * 1e-5)[0])
+            except kcas.Waits:
+                sums.append(caller.commit_waiting(items.deqw())[0])
+
+    threads = [threading.Thread(target=work, args=[caller]) for work, caller in zip((put, take, put, take), callers)]
+    for thread in threads:
+        thread.start()
+    for thread in threads:
+        thread.join()
+assert sum(sums) == EACH * (EACH - 1)
+
 raises(kcas.Refused, lambda: one.commit(x.get()), "KCAS_CLOSED")
 assert raises(kcas.Refused, lambda: kcas.open(layout, callers=65).__enter__()).name == "KCAS_BAD_SIZE"
 print("values and refusals as they should be")
