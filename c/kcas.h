@@ -218,7 +218,7 @@ uint32_t kcas_read(kcas_caller *caller, uint32_t location, uint32_t *value, uint
 /* What the last try read, in rising order of location: how many are written. */
 size_t kcas_reads(kcas_caller *caller, kcas_seen *reads, size_t room);
 
-/* A wait for a change of what the last try read, a step a call; kcas_commit_hanging below makes it. kcas_hang begins it:
+/* A wait for a change of what the last try read, a step a call; kcas_commit_waiting below makes it. kcas_hang begins it:
  * KCAS_GOING. kcas_hang_step: KCAS_GOING until KCAS_HUNG (the caller will be signalled), or KCAS_FREE (something has changed
  * already). kcas_signalled: KCAS_QUIET or KCAS_SIGNALLED. kcas_leave begins to leave: KCAS_LEAVING, and kcas_hang_step until
  * KCAS_FREE. While a caller hangs its tries are answered KCAS_NOT_NOW. */
@@ -343,9 +343,8 @@ static inline kcas_op kcas_or(kcas_op op) {
     return op;
 }
 
-/* Where threads sleep that wait for a change. One for a store, all zero at first. */
+/* Where threads sleep that wait for a change, each at its caller's number. One for a store, all zero at first. */
 typedef struct kcas_bell {
-    kcas_word waiters, changes;
     kcas_word seats[KCAS_MOST_CALLERS];
 } kcas_bell;
 
@@ -422,11 +421,6 @@ static inline void kcas_back_off(uint32_t *pauses) {
     for (uint32_t i = 0; i < *pauses; i++) kcas_pause();
     if (*pauses < 1024) *pauses *= 2;
 }
-/* Wakes who waits by the bell, where something was done. */
-static inline void kcas_ring(kcas_bell *bell, uint32_t answer) {
-    if (answer == KCAS_DONE && bell && kcas_load(&bell->waiters) != 0) kcas_rouse(&bell->changes);
-}
-
 /* Whether another try may answer otherwise at once. */
 static inline int kcas_missed(uint32_t answer) { return answer == KCAS_LOST || answer == KCAS_BUSY; }
 
@@ -466,20 +460,13 @@ KCAS_SELDOM uint32_t kcas_add_on(kcas_bell *bell, kcas_caller *caller, uint32_t 
     return answer;
 }
 
-/* Tries until a try was neither lost nor given up, and wakes those whose hangs it ended. */
-static inline uint32_t kcas_commit_quietly(kcas_bell *bell, kcas_caller *caller, const kcas_op *ops, size_t count, kcas_reply *replies, size_t room) {
+/* Tries until a try was neither lost nor given up, and wakes those who wait for what it has changed: every answer of kcas_try but KCAS_LOST and
+ * KCAS_BUSY. The bell may be NULL where nobody waits. */
+static inline uint32_t kcas_commit(kcas_bell *bell, kcas_caller *caller, const kcas_op *ops, size_t count, kcas_reply *replies, size_t room) {
     kcas_enter(caller);
     uint32_t answer = kcas_try_once(bell, caller, ops, count, replies, room);
     if (answer != KCAS_DONE) answer = kcas_try_on(bell, caller, ops, count, replies, room, answer);
     kcas_exit(caller);
-    return answer;
-}
-
-/* Tries until a try was neither lost nor given up, and wakes who waits: every answer of kcas_try but KCAS_LOST and
- * KCAS_BUSY. The bell may be NULL where nobody waits. */
-static inline uint32_t kcas_commit(kcas_bell *bell, kcas_caller *caller, const kcas_op *ops, size_t count, kcas_reply *replies, size_t room) {
-    uint32_t answer = kcas_commit_quietly(bell, caller, ops, count, replies, room);
-    kcas_ring(bell, answer);
     return answer;
 }
 
@@ -489,31 +476,10 @@ static inline uint32_t kcas_commit_add(kcas_bell *bell, kcas_caller *caller, uin
     uint32_t answer = kcas_add_once(bell, caller, location, number, before);
     if (answer != KCAS_DONE) answer = kcas_add_on(bell, caller, location, number, before, answer);
     kcas_exit(caller);
-    kcas_ring(bell, answer);
     return answer;
 }
 
-/* And waits where it would have to, until a deadline by the monotonic clock (kcas_in makes one): KCAS_LATER only behind it. It tries at least
- * once, and wakes at each commit on the store by the same bell. NULL for `until`: it waits on. NULL for the bell: it doesn't wait. */
-static inline uint32_t kcas_commit_until(kcas_bell *bell, kcas_caller *caller, const kcas_op *ops, size_t count, kcas_reply *replies, size_t room, const struct timespec *until) {
-    uint32_t answer = kcas_commit(bell, caller, ops, count, replies, room);
-    while (bell && answer == KCAS_LATER && !kcas_is_past(until)) {
-        kcas_plus(&bell->waiters, 1);
-        uint32_t seen = kcas_load(&bell->changes);
-        answer = kcas_commit(bell, caller, ops, count, replies, room);
-        if (answer == KCAS_LATER) kcas_sleep(&bell->changes, seen, until);
-        kcas_plus(&bell->waiters, (uint32_t)-1);
-        if (answer == KCAS_LATER) answer = kcas_commit(bell, caller, ops, count, replies, room);
-    }
-    return answer;
-}
-
-/* And waits where it would have to: with a bell never KCAS_LATER. */
-static inline uint32_t kcas_commit_waiting(kcas_bell *bell, kcas_caller *caller, const kcas_op *ops, size_t count, kcas_reply *replies, size_t room) {
-    return kcas_commit_until(bell, caller, ops, count, replies, room, NULL);
-}
-
-/* Waits for a change of what the last try read, by a hang of the store itself, until the deadline at most. */
+/* Waits for a change of what the last try read, by a hang of the store itself, until the deadline at most; NULL is one that never comes. */
 static inline void kcas_hang_until(kcas_bell *bell, kcas_caller *caller, const struct timespec *until) {
     kcas_enter(caller);
     uint32_t step = kcas_hang(caller), number = kcas_number(caller);
@@ -530,11 +496,9 @@ static inline void kcas_hang_until(kcas_bell *bell, kcas_caller *caller, const s
     kcas_exit(caller);
 }
 
-static inline void kcas_hang_on(kcas_bell *bell, kcas_caller *caller) { kcas_hang_until(bell, caller, NULL); }
-
-/* As kcas_commit_until and kcas_commit_waiting, but they wake only at a change of what was read. It costs more to begin to wait, and nothing
- * to those who commit elsewhere. */
-static inline uint32_t kcas_commit_hanging_until(kcas_bell *bell, kcas_caller *caller, const kcas_op *ops, size_t count, kcas_reply *replies, size_t room, const struct timespec *until) {
+/* As kcas_commit, and it waits where it would have to, until a deadline by the monotonic clock (kcas_in makes one): KCAS_LATER only behind it. It
+ * tries at least once, and again at each change of what it read. NULL for `until`: it waits on. NULL for the bell: it doesn't wait. */
+static inline uint32_t kcas_commit_until(kcas_bell *bell, kcas_caller *caller, const kcas_op *ops, size_t count, kcas_reply *replies, size_t room, const struct timespec *until) {
     uint32_t answer = kcas_commit(bell, caller, ops, count, replies, room);
     while (bell && answer == KCAS_LATER && !kcas_is_past(until)) {
         kcas_hang_until(bell, caller, until);
@@ -542,8 +506,9 @@ static inline uint32_t kcas_commit_hanging_until(kcas_bell *bell, kcas_caller *c
     }
     return answer;
 }
-static inline uint32_t kcas_commit_hanging(kcas_bell *bell, kcas_caller *caller, const kcas_op *ops, size_t count, kcas_reply *replies, size_t room) {
-    return kcas_commit_hanging_until(bell, caller, ops, count, replies, room, NULL);
+/* The same without a deadline: with a bell never KCAS_LATER. */
+static inline uint32_t kcas_commit_waiting(kcas_bell *bell, kcas_caller *caller, const kcas_op *ops, size_t count, kcas_reply *replies, size_t room) {
+    return kcas_commit_until(bell, caller, ops, count, replies, room, NULL);
 }
 
 /* ---- transactions whose next step depends on what they read ---- */
@@ -628,22 +593,20 @@ static inline uint32_t kcas_still(kcas_bell *bell, kcas_log *log) {
     }
     log->count = reads;
     if (reads == 0) return KCAS_DONE;
-    return kcas_commit_quietly(bell, log->caller, log->ops, reads, replies, KCAS_MOST_OPS);
+    return kcas_commit(bell, log->caller, log->ops, reads, replies, KCAS_MOST_OPS);
 }
 
-/* The same, and it sleeps until the next commit by the bell where all still stands. */
+/* The same, and it waits until one of them has changed where all still stands. */
 static inline uint32_t kcas_wait_in(kcas_bell *bell, kcas_log *log) {
-    kcas_plus(&bell->waiters, 1);
-    uint32_t seen = kcas_load(&bell->changes);
     uint32_t answer = kcas_still(bell, log);
-    if (answer == KCAS_DONE && log->count != 0) kcas_sleep(&bell->changes, seen, NULL);
-    kcas_plus(&bell->waiters, (uint32_t)-1);
-    return log->count == 0 ? (uint32_t)KCAS_BAD_OPS : answer;
+    if (log->count == 0) return KCAS_BAD_OPS;
+    if (answer == KCAS_DONE) kcas_hang_until(bell, log->caller, NULL);
+    return answer;
 }
 
 /* Runs the body until what it read stood at one moment, and then makes its writes at that moment: KCAS_DONE. The body has no
  * effects but by kcas_write, may run many times, and ends by itself on any values. Where it answers KCAS_WAIT it runs again
- * once something was changed; where KCAS_STOP, or KCAS_WAIT without a bell, nothing is written: KCAS_LATER. KCAS_BAD_OPS for more
+ * once something of what it read has changed; where KCAS_STOP, or KCAS_WAIT without a bell, nothing is written: KCAS_LATER. KCAS_BAD_OPS for more
  * than 16 reads and writes, a location outside, a wait on nothing, or another wish than these three; or as kcas_try. */
 static inline uint32_t kcas_run(kcas_bell *bell, kcas_caller *caller, uint32_t (*body)(kcas_log *log, void *with), void *with) {
     for (;;) {

@@ -77,7 +77,6 @@ public:
     // False where it would wait; a refusal is thrown.
     bool commit(transaction &t) { return checked(t, kcas_commit(bell(), &handle_, t.ops_.data(), t.count_, t.replies_.data(), t.replies_.size())); }
     void commit_waiting(transaction &t) { checked(t, kcas_commit_waiting(bell(), &handle_, t.ops_.data(), t.count_, t.replies_.data(), t.replies_.size())); }
-    void commit_hanging(transaction &t) { checked(t, kcas_commit_hanging(bell(), &handle_, t.ops_.data(), t.count_, t.replies_.data(), t.replies_.size())); }
 
     // Waits so long at most: false where it would still wait.
     template <class Number, class Period>

@@ -1,5 +1,5 @@
 /* kcas_add does and answers what kcas_try of one KCAS_ADD does, and each wrong call changes nothing; no add of four threads is lost, and each
- * value before was told once; a waiter by the bell is woken, and one that hangs is named in wakes. */
+ * value before was told once; a waiter is woken, and one that hangs is named in wakes. */
 #include "test.h"
 #include <string.h>
 

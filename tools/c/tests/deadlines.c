@@ -1,30 +1,27 @@
-/* A commit waits no longer than to its deadline, by the bell and by a hang: behind it KCAS_LATER, with nothing done; before it, as soon as there is
- * something. Who left at a deadline may commit, and wait again. */
+/* A commit waits no longer than to its deadline: behind it KCAS_LATER, with nothing done; before it, as soon as there is something. Who left at a
+ * deadline may commit, and wait again. */
 #include "test.h"
 
 static kcas_caller callers[2];
 static kcas_bell bell;
 static int rounds;
 
-typedef uint32_t way(kcas_bell *, kcas_caller *, const kcas_op *, size_t, kcas_reply *, size_t, const struct timespec *);
-
 static double seconds_to(const struct timespec *then) {
     struct timespec now = kcas_now();
     return (double)(then->tv_sec - now.tv_sec) + (double)(then->tv_nsec - now.tv_nsec) * 1e-9;
 }
 
-static void ends(way *commit) {
+static void ends(void) {
     kcas_op never = kcas_check(0, KCAS_EQ, 99), now = kcas_at(0, KCAS_GET, 0, 0);
     kcas_reply reply = { 99, 99 };
     struct timespec past = { 0, 0 }, soon;
-    CLAIM(commit(&bell, &callers[0], &never, 1, &reply, 1, &past) == KCAS_LATER && reply.kind == 99);
+    CLAIM(kcas_commit_until(&bell, &callers[0], &never, 1, &reply, 1, &past) == KCAS_LATER && reply.kind == 99);
     for (uint32_t i = 0; i < 20; i++) {
         soon = kcas_in(i);
-        CLAIM(commit(&bell, &callers[0], &never, 1, &reply, 1, &soon) == KCAS_LATER && reply.kind == 99);
+        CLAIM(kcas_commit_until(&bell, &callers[0], &never, 1, &reply, 1, &soon) == KCAS_LATER && reply.kind == 99);
         CLAIM(seconds_to(&soon) <= 0 && seconds_to(&soon) > -10);
     }
-    CLAIM(kcas_load(&bell.waiters) == 0);
-    CLAIM(commit(&bell, &callers[0], &now, 1, &reply, 1, &past) == KCAS_DONE && reply.kind == KCAS_VALUE);
+    CLAIM(kcas_commit_until(&bell, &callers[0], &now, 1, &reply, 1, &past) == KCAS_DONE && reply.kind == KCAS_VALUE);
 }
 
 /* Puts what the other one waits for, a little before its deadline or behind it. */
@@ -41,7 +38,7 @@ static void *putter(void *arg) {
     return NULL;
 }
 
-static uint32_t meets(way *commit) {
+static uint32_t meets(void) {
     pthread_t thread;
     uint32_t late = 0;
     kcas_op ask = kcas_at(1, KCAS_INCR, 0, 0), ops[] = { kcas_check(2, KCAS_GT, 0), kcas_at(2, KCAS_DECR, 0, 0) };
@@ -51,11 +48,11 @@ static uint32_t meets(way *commit) {
         struct timespec until = kcas_now();
         CLAIM(kcas_commit(&bell, &callers[0], &ask, 1, replies, 1) == KCAS_DONE);
         until.tv_nsec += until.tv_nsec < 999990000 ? i % 10 * 1000 : 0;
-        uint32_t answer = commit(&bell, &callers[0], ops, 2, replies, 2, &until);
+        uint32_t answer = kcas_commit_until(&bell, &callers[0], ops, 2, replies, 2, &until);
         while (answer == KCAS_LATER) {
             late++;
             until = kcas_in(5000);
-            answer = commit(&bell, &callers[0], ops, 2, replies, 2, &until);
+            answer = kcas_commit_until(&bell, &callers[0], ops, 2, replies, 2, &until);
             CLAIM(seconds_to(&until) > 0);
         }
         CLAIM(answer == KCAS_DONE);
@@ -70,10 +67,8 @@ int main(int argc, char **argv) {
     rounds = times(argc, argv, 20000);
     CLAIM(seconds_to(&b) > 1 && seconds_to(&b) <= 1.999 && !kcas_is_past(&b) && kcas_is_past(&a) && !kcas_is_past(NULL) && b.tv_nsec < 1000000000);
     CLAIM(kcas_open(values, 3, callers, 2) == KCAS_DONE);
-    ends(kcas_commit_until);
-    ends(kcas_commit_hanging_until);
-    uint32_t by_bell = meets(kcas_commit_until);
-    printf("late: by the bell %u, by hangs %u\n", by_bell, meets(kcas_commit_hanging_until));
+    ends();
+    printf("%u deadlines came first\n", meets());
     CLAIM(kcas_close(&callers[0]) == KCAS_DONE && kcas_close(&callers[1]) == KCAS_DONE);
     return 0;
 }

@@ -1,5 +1,5 @@
-/* Two producers put into a queue of two places, and two consumers take from it: all wait often, and no wake is lost. By the
- * bell, by the store's own hang, and by a body that waits. */
+/* Two producers put into a queue of two places, and two consumers take from it: all wait often, and no wake is lost. Without a
+ * deadline, and by a body that waits; then with deadlines, which often come first. */
 #include "test.h"
 
 enum { THREADS = 4 };
@@ -14,7 +14,12 @@ static uint32_t waiting(size_t me, const kcas_op *ops, size_t count, kcas_reply 
     uint32_t answer = kcas_commit(bell, caller, ops, count, replies, count);
     if (answer != KCAS_LATER) return answer;
     waits[me]++;
-    return way == 0 ? kcas_commit_waiting(bell, caller, ops, count, replies, count) : kcas_commit_hanging(bell, caller, ops, count, replies, count);
+    if (way == 0) return kcas_commit_waiting(bell, caller, ops, count, replies, count);
+    while (answer == KCAS_LATER) {
+        struct timespec until = kcas_in(waits[me] % 3);
+        answer = kcas_commit_until(bell, caller, ops, count, replies, count, &until);
+    }
+    return answer;
 }
 
 /* Enters where there is room: a check of the number of items, and the item. */
@@ -63,7 +68,7 @@ static void run(void) {
     for (size_t i = 0; i < THREADS; i++) all += taken[i];
     CLAIM(all == (uint32_t)rounds * (uint32_t)(rounds - 1));
     for (size_t i = 0; i < THREADS; i++) CLAIM(kcas_close(&callers[i]) == KCAS_DONE);
-    printf("%s: %u waits\n", way == 0 ? "by the bell" : "by hangs", waits[0] + waits[1] + waits[2] + waits[3]);
+    printf("%s: %u waits\n", way == 0 ? "without deadlines" : "with deadlines", waits[0] + waits[1] + waits[2] + waits[3]);
     free(bell);
 }
 
