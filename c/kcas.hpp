@@ -31,8 +31,8 @@ struct refused : std::runtime_error {
     static constexpr std::size_t none = static_cast<std::size_t>(-1);
     std::uint32_t answer;
     std::size_t operation;
-    explicit refused(std::uint32_t answer, std::size_t operation = none)
-        : std::runtime_error(std::string("kcas: ") + kcas_answer_name(answer) + (operation == none ? "" : ", operation " + std::to_string(operation))), answer(answer), operation(operation) {}
+    explicit refused(std::uint32_t by, std::size_t at = none)
+        : std::runtime_error(std::string("kcas: ") + kcas_answer_name(by) + (at == none ? "" : ", operation " + std::to_string(at))), answer(by), operation(at) {}
 };
 
 // The operations of one transaction, and behind it their replies.
