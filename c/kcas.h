@@ -245,7 +245,6 @@ size_t kcas_bad_op(kcas_caller *caller, const kcas_op *ops, size_t count, uint64
 #endif
 
 #include <stdlib.h>
-
 #include <time.h>
 
 #ifdef __linux__

@@ -565,8 +565,8 @@ class Caller:
         has changed: then look again, and compute anew. Reads and operations are at most 16 together."""
         seen = (_Seen * (MOST_OPS + 1))()
         reads = _lib.kcas_reads(ctypes.byref(self._handle), seen, len(seen))
-        if reads + len(ops) > MOST_OPS or not ops:
-            raise BadOps("%d locations were read, and there are %d operations: 1 to 16 together" % (reads, len(ops)))
+        if reads + len(ops) > MOST_OPS:
+            raise BadOps("%d locations were read, and there are %d operations: at most 16 together" % (reads, len(ops)))
         unchanged = [Loc(_Object(_KINDS["loc"], it.location, 0, 0)).check("eq", it.value) for it in seen[:reads]]
         told = self._try([unchanged + list(ops)])
         return None if told is None else told[reads:]
