@@ -30,11 +30,11 @@ shared="libkcas.so.${version%.*}"
 ln -sf "libkcas.so.$version" "$to/$shared"
 ln -sf "$shared" "$to/libkcas.so"
 has() { command -v "$1" > /dev/null || { echo "no $1: $2 is left out"; return 1; }; }
-for example in accounts pool; do
+for example in accounts pool server; do
     "${CC:-cc}" -std=c11 -O2 -Wall -Wextra -I "$top/c" "$top/c/examples/$example.c" "$to/libkcas.a" -pthread -o "$to/$example"
 done
 has g++ "C++" && for example in jobs pool; do
     g++ -std=c++17 -O2 -Wall -Wextra -I "$top/c" "$top/c/examples/$example.cc" "$to/libkcas.a" -pthread -o "$to/$example-cc"
 done
 has cargo "Rust" && (cd "$top/c/rust" && KCAS_LIB_DIR="$to" CARGO_TARGET_DIR="$to/cargo" cargo build --offline -q --release --examples)
-echo "made in out/c: $(cd "$to" && ls -d libkcas.a libkcas.so accounts pool jobs-cc pool-cc 2> /dev/null | tr '\n' ' ')"
+echo "made in out/c: $(cd "$to" && ls -d libkcas.a libkcas.so accounts pool server jobs-cc pool-cc 2> /dev/null | tr '\n' ' ')"

@@ -54,7 +54,7 @@ if has g++ "C++"; then
     g++ -std=c++17 -g -O1 -Wall -Wextra -Werror -I "$top/c" "$top/tools/c/tests/classes.cc" "$to/libkcas.a" -pthread -o "$room/classes"
     ran "C++: classes" "$room/classes"
 fi
-for example in accounts pool jobs-cc pool-cc; do
+for example in accounts pool server jobs-cc pool-cc; do
     [ -x "$to/$example" ] && ran "example: $example" "$to/$example"
 done
 for example in accounts pool; do
