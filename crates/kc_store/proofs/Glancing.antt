@@ -1,5 +1,5 @@
 -- Looks that confirm, and what a view answers by them.
-use Rattle.std.proofs.Common.{◌≡◌, ◌≢◌, ◌<◌, ◌⊎◌, ◌||◌, inl, inr, Bool, true, ℕ, ◌++◌, List, [], ◌∷◌, Some, None, Option, refl, sym, ap, ◌∙◌, subst, length, ◌+◌, All, arith, Contains, get_or, take}
+use Rattle.std.proofs.Common.{◌≡◌, ◌≢◌, ◌<◌, ◌⊎◌, ◌||◌, inl, inr, Bool, true, false, ℕ, ◌++◌, List, [], ◌∷◌, Some, None, Option, refl, sym, ap, ◌∙◌, subst, length, All, Contains, get_or, take}
 use Rattle.std.proofs.lemmas.List.{take-map}
 use Rattle.std.proofs.lemmas.List.Elements.{All-contains, All-contains_itself, All-from_get_or, All-take, Contains-append_left, Contains-append_right, Contains-get_or}
 use Rattle.kc_hang.proofs.kc_table_laws.Confirming.{confirmed_later, knew_on, knows_now, look_confirms, stood_from, views_stand}
@@ -170,7 +170,7 @@ row_confirms v _ _ idle lie known (one_look rs u r w a s) x c =
 
     go : Contains rs x ⊎ (r ≡ x) → (Contains rs x → SeesConfirmed u (length v.past) x) → SeesConfirmed w (length v.past) x
     go (inl d) before = still_confirmed u w r.loc (looks_straight u w r.loc g.advances.idle here s.quiet) s.idle (length v.past) x (before d)
-    go (inr e) before = subst (SeesConfirmed w (length v.past)) e (look_confirms u w r.loc r (length v.past) g.advances.idle here s.once s.told refl refl (knew_on v u g.keeps (length v.past) r (knows_now v r (known r last))))
+    go (inr e) before = subst (SeesConfirmed w (length v.past)) e (look_confirms u w r.loc r r (length v.past) g.advances.idle here s.once s.told refl refl (knew_on v u g.keeps (length v.past) r (knows_now v r (known r last))))
 
 -- a row that another word ended
 module _ (v w : SeatView) (rs : List Seen) (idle : is_idle v.seat.work ≡ true) (lie : LieWithin v.of.origin.locations rs) (a : LooksUntil v rs w) where

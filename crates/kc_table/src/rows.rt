@@ -74,21 +74,27 @@ fn look_row(
     ensures until { result ≡ false → LooksUntil (seat_seen_as token.old.table_id token.old.me began.old machine.old) reads.now (seat_seen_as token.new.table_id token.new.me began.new machine.new) }
 {
     let mut made = machine.steps();
+    let mut pends = *began;
     for i in 0..reads.len() {
-        let read = reads[i];
-        let word = location_at(read.loc);
-        let number = load_again::<Brand>(
-            words, token, machine, made, reads, i, read.loc, base, word,
-        );
-        *began = false;
-        if !says(number, read) {
+        // Field by field, as they were written: a load of two fields behind a store of one waits.
+        let Seen {
+            loc,
+            version,
+            value,
+        } = reads[i];
+        let word = location_at(loc);
+        let number = load_again::<Brand>(words, token, machine, made, reads, i, loc, base, word);
+        pends = false;
+        if !says(number, version, value) {
             end_row(machine, made, reads, i);
-            tell(machine, read.loc, number);
+            *began = false;
+            tell(machine, loc, number);
             return false;
         }
         made = one_more(made);
     }
     end_row(machine, made, reads, reads.len());
+    *began = pends;
     true
 }
 
@@ -115,15 +121,22 @@ fn load_again<B: Asks>(
     load_plain::<Brand>(words, token, base, word)
 }
 
-// Whether these bits are of the plain word that the read says.
+// Whether these bits are of a plain word with this version and value.
 #[inline(always)]
-fn says(number: u64, read: Seen) -> bool
-    ensures says { result ≡ true → unpacked number ≡ Plain read.version read.value }
+fn says(number: u64, version: u32, value: u32) -> bool
+    ensures says { result ≡ true → unpacked number ≡ Plain version value }
     ensures back { (w : WordValue) → IsPackable w → packed w ≡ number → unpacked number ≡ w }
 {
     match Word::unpack(number) {
-        Word::Plain { version, value } => version == read.version && value == read.value,
-        Word::Ref { .. } => false,
+        Word::Plain {
+            version: now,
+            value: stands,
+        } => now == version && stands == value,
+        Word::Ref {
+            generation: _,
+            descriptor: _,
+            entry: _,
+        } => false,
     }
 }
 

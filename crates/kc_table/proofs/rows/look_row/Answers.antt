@@ -29,7 +29,7 @@ load_again-number-requires-clause-seat c =
     let idle : is_idle u.work ≡ true = behind_idle c.loop-i.machine c.loop-i.made (take i rs) (ap (λ (s : Seat). is_idle s.work) c.loop-i.invariant.machine ∙ c.requires.idle) in
     let same = c.loop-i.invariant.here.origin ∙ sym c.requires.here.origin in
     let within = subst (λ (o : Origin). (get_or rs i d).loc.0 < o.locations) (sym same) (reads_within c.args.token.now.me.0.origin.locations rs i d lt c.requires.within) in
-    (look_busy u (get_or rs i d).loc idle, ready_begun me c.loop-i.began u c.loop-i.token.table_id (seat_seen_as c.loop-i.token.table_id me c.loop-i.began u) (Look (get_or rs i d).loc) c.loop-i.invariant.ready refl (idle, look_busy u (get_or rs i d).loc idle) within tt)
+    (look_busy u (get_or rs i d).loc idle, ready_begun me c.loop-i.pends u c.loop-i.token.table_id (seat_seen_as c.loop-i.token.table_id me c.loop-i.pends u) (Look (get_or rs i d).loc) c.loop-i.invariant.ready refl (idle, look_busy u (get_or rs i d).loc idle) within tt)
 
 pub load_again-number-requires-clause-aim : goal.load_again-number-requires-clause-aim
 load_again-number-requires-clause-aim c =
@@ -58,7 +58,7 @@ returns-then-not-says-clause-ready c =
     let idle : is_idle u.work ≡ true = behind_idle c.loop-i.machine c.loop-i.made (take i rs) (ap (λ (s : Seat). is_idle s.work) c.loop-i.invariant.machine ∙ c.requires.idle) in
     let same = c.loop-i.invariant.here.origin ∙ sym c.requires.here.origin in
     let within = subst (λ (o : Origin). r.loc.0 < o.locations) (sym same) (reads_within c.args.token.now.me.0.origin.locations rs i d lt c.requires.within) in
-    looks_ready c.loop-i.token.table_id c.load_again-number.new.token.table_id me c.load_again-number.new.token.me c.loop-i.began u c.tell.new.seat r.loc n idle c.loop-i.invariant.ready within c.load_again-number.ensures.table c.load_again-number.ensures.moved
+    looks_ready c.loop-i.token.table_id c.load_again-number.new.token.table_id me c.load_again-number.new.token.me c.loop-i.pends u c.tell.new.seat r.loc n idle c.loop-i.invariant.ready within c.load_again-number.ensures.table c.load_again-number.ensures.moved
     c.tell.ensures.back (c.tell.ensures.answered ∙ ap (λ s. seat_answered (begun s (Look r.loc)) (found.Word (unpacked n))) c.end_row.ensures)
 
 pub returns-then-not-says-clause-until : goal.returns-then-not-says-clause-until
@@ -77,13 +77,13 @@ returns-then-not-says-clause-until c = λ _.
     record {
       front = i;
       r = r;
-      u = seat_seen_as c.loop-i.token.table_id me c.loop-i.began u;
+      u = seat_seen_as c.loop-i.token.table_id me c.loop-i.pends u;
       within = lt;
       next = get_or_default rs i d r lt;
       looked = c.loop-i.invariant.looks;
-      quiet = looks_quietly c.loop-i.token.table_id c.load_again-number.new.token.table_id me c.load_again-number.new.token.me c.loop-i.began u c.tell.new.seat r.loc n idle c.loop-i.invariant.ready within c.load_again-number.ensures.table c.load_again-number.ensures.moved
+      quiet = looks_quietly c.loop-i.token.table_id c.load_again-number.new.token.table_id me c.load_again-number.new.token.me c.loop-i.pends u c.tell.new.seat r.loc n idle c.loop-i.invariant.ready within c.load_again-number.ensures.table c.load_again-number.ensures.moved
           c.tell.ensures.back (c.tell.ensures.answered ∙ ap (λ s. seat_answered (begun s (Look r.loc)) (found.Word (unpacked n))) c.end_row.ensures);
-      once = looks_once c.loop-i.token.table_id c.load_again-number.new.token.table_id me c.load_again-number.new.token.me c.loop-i.began u c.tell.new.seat r.loc n idle c.loop-i.invariant.ready within c.load_again-number.ensures.table c.load_again-number.ensures.moved
+      once = looks_once c.loop-i.token.table_id c.load_again-number.new.token.table_id me c.load_again-number.new.token.me c.loop-i.pends u c.tell.new.seat r.loc n idle c.loop-i.invariant.ready within c.load_again-number.ensures.table c.load_again-number.ensures.moved
           c.tell.ensures.back (c.tell.ensures.answered ∙ ap (λ s. seat_answered (begun s (Look r.loc)) (found.Word (unpacked n))) c.end_row.ensures);
     }
 
@@ -108,9 +108,9 @@ loop-i-preserved c =
     let more = sym (take_more rs i d lt) in
     let m = c.one_more-made.result in
     let made_so = sym c.one_more-made.ensures in
-    let i_ready = row_ready c.loop-i.token.table_id y me later c.loop-i.began s c.loop-i.made xs r n start idle c.loop-i.invariant.made c.loop-i.invariant.ready within c.load_again-number.ensures.table c.load_again-number.ensures.moved c.says.ensures.back says in
-    let i_looks = row_looks c.loop-i.token.table_id y me later c.loop-i.began s c.loop-i.made xs r n start idle c.loop-i.invariant.made c.loop-i.invariant.ready within c.load_again-number.ensures.table c.load_again-number.ensures.moved c.says.ensures.back says c.loop-i.invariant.looks in
-    let i_here = row_here c.loop-i.token.table_id y me later c.loop-i.began s c.loop-i.made xs r n start idle c.loop-i.invariant.made c.loop-i.invariant.ready within c.load_again-number.ensures.table c.load_again-number.ensures.moved c.says.ensures.back says c.args.words.now.key c.args.words.now.table_id c.args.base c.loop-i.invariant.here in
+    let i_ready = row_ready c.loop-i.token.table_id y me later c.loop-i.pends s c.loop-i.made xs r n start idle c.loop-i.invariant.made c.loop-i.invariant.ready within c.load_again-number.ensures.table c.load_again-number.ensures.moved c.says.ensures.back says in
+    let i_looks = row_looks c.loop-i.token.table_id y me later c.loop-i.pends s c.loop-i.made xs r n start idle c.loop-i.invariant.made c.loop-i.invariant.ready within c.load_again-number.ensures.table c.load_again-number.ensures.moved c.says.ensures.back says c.loop-i.invariant.looks in
+    let i_here = row_here c.loop-i.token.table_id y me later c.loop-i.pends s c.loop-i.made xs r n start idle c.loop-i.invariant.made c.loop-i.invariant.ready within c.load_again-number.ensures.table c.load_again-number.ensures.moved c.says.ensures.back says c.args.words.now.key c.args.words.now.table_id c.args.base c.loop-i.invariant.here in
     record {
       machine = c.loop-i.invariant.machine;
       here = i_here;

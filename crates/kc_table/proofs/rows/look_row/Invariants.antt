@@ -17,6 +17,6 @@ invariant-loop-i l = record {
   machine : l.machine ≡ l.fn.machine;
   here : Here l.words.key l.words.table_id l.base l.token.table_id l.token.me;
   made : (behind l.machine l.made (take l.i l.reads)).made ≡ l.made;
-  ready : ReadySeat l.token.me l.began (behind l.machine l.made (take l.i l.reads));
-  looks : LooksAgain (seat_seen_as l.fn.token.table_id l.fn.token.me l.fn.began l.fn.machine) (take l.i l.reads) (seat_seen_as l.token.table_id l.token.me l.began (behind l.machine l.made (take l.i l.reads)));
+  ready : ReadySeat l.token.me l.pends (behind l.machine l.made (take l.i l.reads));
+  looks : LooksAgain (seat_seen_as l.fn.token.table_id l.fn.token.me l.fn.began l.fn.machine) (take l.i l.reads) (seat_seen_as l.token.table_id l.token.me l.pends (behind l.machine l.made (take l.i l.reads)));
 }
