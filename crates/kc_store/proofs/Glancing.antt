@@ -48,7 +48,7 @@ use Rattle.kc_store.specs.declared.viewing.Glimpse.{Glimpse}
 use Rattle.kc_store.specs.declared.viewing.Glimpse.TheVariants as glimpse
 use Rattle.kc_store.specs.declared.viewing.Viewed.{Viewed}
 use Rattle.kc_store.specs.declared.viewing.Viewed.TheVariants as viewed
-use Rattle.kc_table.specs.Turns.{LooksAgain, LooksUntil, is_within, none as no_look, one as one_look}
+use Rattle.kc_table.specs.Turns.{LooksAgain, LooksUntil, is_read_below, none as no_look, one as one_look}
 use Rattle.kc_xt.specs.Commit.{Came, Looked, PutsWhereDone, tried_of}
 use Rattle.kc_xt.specs.Meaning.{Meaning}
 use Rattle.kc_xt.specs.declared.attempts.Tried.{Tried}
@@ -142,8 +142,8 @@ in_reads rs i d l = Contains-get_or rs i d l
 abbrev pub LieWithin : ℕ → List Seen → Type 0
 LieWithin k rs = (r : Seen) → Contains rs r → r.loc.0 < k
 
-pub all_within : (k : ℕ) (rs : List Seen) → LieWithin k rs → All (is_within k) rs
-all_within k rs h = All-from_get_or (is_within k) rs (record { loc = record { 0 = 0 }; version = 0; value = 0 }) (λ i lt. h (get_or rs i (record { loc = record { 0 = 0 }; version = 0; value = 0 })) (in_reads rs i (record { loc = record { 0 = 0 }; version = 0; value = 0 }) lt))
+pub all_within : (k : ℕ) (rs : List Seen) → LieWithin k rs → All (is_read_below k) rs
+all_within k rs h = All-from_get_or (is_read_below k) rs (record { loc = record { 0 = 0 }; version = 0; value = 0 }) (λ i lt. h (get_or rs i (record { loc = record { 0 = 0 }; version = 0; value = 0 })) (in_reads rs i (record { loc = record { 0 = 0 }; version = 0; value = 0 }) lt))
 
 -- looks that found what the reads say
 pub row_glances : (v w : SeatView) (rs : List Seen) → is_idle v.seat.work ≡ true → LieWithin v.of.origin.locations rs → LooksAgain v rs w → Glances v w

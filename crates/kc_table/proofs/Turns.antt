@@ -18,7 +18,7 @@ use Rattle.kc_model.specs.declared.word.Word.{Word}
 use Rattle.kc_model.specs.declared.word.Word.TheVariants.{Plain}
 use Rattle.kc_table.proofs.Begins.{ready_begun}
 use Rattle.kc_table.proofs.Wholes.{look_busy, look_ran, look_ready, look_stands, look_steps}
-use Rattle.kc_table.specs.Turns.{LooksAgain, behind, is_within, one}
+use Rattle.kc_table.specs.Turns.{LooksAgain, seat_behind, is_read_below, one}
 use Rattle.kc_table_moves.specs.Atoms.{Here}
 use Rattle.kc_table_moves.specs.Origins.{Origin, opening_of}
 use Rattle.kc_table_moves.specs.Rule.{MovedWithin, ReadySeat, number_of, past_of}
@@ -28,22 +28,22 @@ use Rattle.kc_table_moves.specs.declared.view.View.{View}
 
 -- ---- a seat behind looks
 
-pub behind_last : (s : Seat) (m : ℕ) (xs : List Seen) (r : Seen) → behind s m (xs ++ r ∷ []) ≡ seat_told s m s.calls (told.Seen r)
+pub behind_last : (s : Seat) (m : ℕ) (xs : List Seen) (r : Seen) → seat_behind s m (xs ++ r ∷ []) ≡ seat_told s m s.calls (told.Seen r)
 behind_last s m [] r = refl
 behind_last s m (x ∷ []) r = refl
 behind_last s m (x ∷ y ∷ xs) r = behind_last s m (y ∷ xs) r
 
-pub behind_idle : (s : Seat) (m : ℕ) (xs : List Seen) → is_idle s.work ≡ true → is_idle (behind s m xs).work ≡ true
+pub behind_idle : (s : Seat) (m : ℕ) (xs : List Seen) → is_idle s.work ≡ true → is_idle (seat_behind s m xs).work ≡ true
 behind_idle s m [] idle = idle
 behind_idle s m (x ∷ []) idle = refl
 behind_idle s m (x ∷ y ∷ xs) idle = behind_idle s m (y ∷ xs) idle
 
-behind_told : (s : Seat) (m : ℕ) (xs : List Seen) (r : Seen) → is_idle s.work ≡ true → (behind s m xs).made ≡ m → seat_answered (begun (behind s m xs) (Look r.loc)) (found.Word (Plain r.version r.value)) ≡ behind s (one_more m) (xs ++ r ∷ [])
+behind_told : (s : Seat) (m : ℕ) (xs : List Seen) (r : Seen) → is_idle s.work ≡ true → (seat_behind s m xs).made ≡ m → seat_answered (begun (seat_behind s m xs) (Look r.loc)) (found.Word (Plain r.version r.value)) ≡ seat_behind s (one_more m) (xs ++ r ∷ [])
 behind_told s m [] r idle e = rw (idle, e) refl
 behind_told s m (x ∷ []) r idle e = refl
 behind_told s m (x ∷ y ∷ xs) r idle e = behind_told s m (y ∷ xs) r idle e
 
-pub behind_made : (s : Seat) (m : ℕ) (xs : List Seen) (r : Seen) → (behind s m (xs ++ r ∷ [])).made ≡ m
+pub behind_made : (s : Seat) (m : ℕ) (xs : List Seen) (r : Seen) → (seat_behind s m (xs ++ r ∷ [])).made ≡ m
 behind_made s m xs r = ap (λ (x : Seat). x.made) (behind_last s m xs r)
 
 -- ---- one more look
@@ -73,32 +73,32 @@ module _ (z y : TableId) (me later : Me Unit View) (began : Bool) (u w : Seat) (
     looks_here q x base h = record { table = same ∙ h.table; origin = ap (λ (t : TableView). t.origin) looks_once.of ∙ h.origin; from = h.from; few = h.few; size = h.size }
 
 -- a row that goes on
-module _ (z y : TableId) (me later : Me Unit View) (began : Bool) (s : Seat) (m : ℕ) (xs : List Seen) (r : Seen) (n : ℕ) (start : SeatView) (idle : is_idle s.work ≡ true) (made : (behind s m xs).made ≡ m)
-    (ready : ReadySeat me began (behind s m xs)) (within : r.loc.0 < me.0.origin.locations) (same : y ≡ z) (moved : MovedWithin MOST_LOADS (begun (behind s m xs) (Look r.loc)) true me n later)
+module _ (z y : TableId) (me later : Me Unit View) (began : Bool) (s : Seat) (m : ℕ) (xs : List Seen) (r : Seen) (n : ℕ) (start : SeatView) (idle : is_idle s.work ≡ true) (made : (seat_behind s m xs).made ≡ m)
+    (ready : ReadySeat me began (seat_behind s m xs)) (within : r.loc.0 < me.0.origin.locations) (same : y ≡ z) (moved : MovedWithin MOST_LOADS (begun (seat_behind s m xs) (Look r.loc)) true me n later)
     (back : (x : Word) → IsPackable x → packed x ≡ n → unpacked n ≡ x) (says : unpacked n ≡ Plain r.version r.value)
   where
-    is : behind s (one_more m) (xs ++ r ∷ []) ≡ seat_answered (begun (behind s m xs) (Look r.loc)) (found.Word (unpacked n))
-    is = sym (behind_told s m xs r idle made) ∙ ap (λ w. seat_answered (begun (behind s m xs) (Look r.loc)) (found.Word w)) (sym says)
+    is : seat_behind s (one_more m) (xs ++ r ∷ []) ≡ seat_answered (begun (seat_behind s m xs) (Look r.loc)) (found.Word (unpacked n))
+    is = sym (behind_told s m xs r idle made) ∙ ap (λ w. seat_answered (begun (seat_behind s m xs) (Look r.loc)) (found.Word w)) (sym says)
 
     abbrev w : Seat
-    w = behind s (one_more m) (xs ++ r ∷ [])
+    w = seat_behind s (one_more m) (xs ++ r ∷ [])
 
-    at_rest : is_idle (behind s m xs).work ≡ true
+    at_rest : is_idle (seat_behind s m xs).work ≡ true
     at_rest = behind_idle s m xs idle
 
     pub row_ready : ReadySeat later false w
-    row_ready = looks_ready z y me later began (behind s m xs) w r.loc n at_rest ready within same moved back is
+    row_ready = looks_ready z y me later began (seat_behind s m xs) w r.loc n at_rest ready within same moved back is
 
     pub row_here : (q : Origin) (x : TableId) (base : ℕ) → Here q x base z me → Here q x base y later
-    row_here = looks_here z y me later began (behind s m xs) w r.loc n at_rest ready within same moved back is
+    row_here = looks_here z y me later began (seat_behind s m xs) w r.loc n at_rest ready within same moved back is
 
-    pub row_looks : LooksAgain start xs (seat_seen_as z me began (behind s m xs)) → LooksAgain start (xs ++ r ∷ []) (seat_seen_as y later false w)
-    row_looks a = one xs (seat_seen_as z me began (behind s m xs)) r (seat_seen_as y later false w) a (record {
-      quiet = looks_quietly z y me later began (behind s m xs) w r.loc n at_rest ready within same moved back is;
-      once = looks_once z y me later began (behind s m xs) w r.loc n at_rest ready within same moved back is;
+    pub row_looks : LooksAgain start xs (seat_seen_as z me began (seat_behind s m xs)) → LooksAgain start (xs ++ r ∷ []) (seat_seen_as y later false w)
+    row_looks a = one xs (seat_seen_as z me began (seat_behind s m xs)) r (seat_seen_as y later false w) a (record {
+      quiet = looks_quietly z y me later began (seat_behind s m xs) w r.loc n at_rest ready within same moved back is;
+      once = looks_once z y me later began (seat_behind s m xs) w r.loc n at_rest ready within same moved back is;
       idle = behind_idle s (one_more m) (xs ++ r ∷ []) idle;
       told = ap (λ (x : Seat). x.told) (behind_last s (one_more m) xs r);
     })
 
-pub reads_within : (k : ℕ) (rs : List Seen) (i : ℕ) (d : Seen) → i < length rs → All (is_within k) rs → (get_or rs i d).loc.0 < k
-reads_within k rs i d lt a = All-get_or (is_within k) rs i d lt a
+pub reads_within : (k : ℕ) (rs : List Seen) (i : ℕ) (d : Seen) → i < length rs → All (is_read_below k) rs → (get_or rs i d).loc.0 < k
+reads_within k rs i d lt a = All-get_or (is_read_below k) rs i d lt a

@@ -32,11 +32,11 @@ pub record LooksUntil (v : SeatView) (rs : List Seen) (w : SeatView) : Type 0 wh
   pub once : Stepped (begun_at u (Look r.loc)) w
 
 -- its location lies below
-abbrev pub is_within : ℕ → Seen → Type 0
-is_within n r = r.loc.0 < n
+abbrev pub is_read_below : ℕ → Seen → Type 0
+is_read_below n r = r.loc.0 < n
 
 -- a seat behind looks that were told these, which has made so many steps in all
-abbrev pub behind : Seat → ℕ → List Seen → Seat
-behind s made [] = s
-behind s made (r ∷ []) = seat_told s made s.calls (told.Seen r)
-behind s made (r ∷ x ∷ rs) = behind s made (x ∷ rs)
+abbrev pub seat_behind : Seat → ℕ → List Seen → Seat
+seat_behind s made [] = s
+seat_behind s made (r ∷ []) = seat_told s made s.calls (told.Seen r)
+seat_behind s made (r ∷ x ∷ rs) = seat_behind s made (x ∷ rs)

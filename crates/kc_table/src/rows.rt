@@ -9,7 +9,7 @@ ghost use Rattle.kc_model.specs.Word.{IsPackable, packed, unpacked};
 ghost use Rattle.kc_model.specs.declared.footprint.Seen.{Seen as SeenValue};
 ghost use Rattle.kc_model.specs.declared.word.Word.{Word as WordValue};
 ghost use Rattle.kc_model.specs.declared.word.Word.TheVariants.{Plain};
-ghost use Rattle.kc_table.specs.Turns.{LooksAgain, LooksUntil, behind, is_within};
+ghost use Rattle.kc_table.specs.Turns.{LooksAgain, LooksUntil, seat_behind, is_read_below};
 ghost use Rattle.kc_table_layout.specs.declared.change.Change.TheVariants as change;
 ghost use Rattle.kc_table_moves.specs.Atoms.{Aims, Here, is_plain};
 ghost use Rattle.kc_table_moves.specs.Rule.{MovedWithin, ReadySeat};
@@ -34,7 +34,7 @@ impl KcTable {
     pub fn look_again(&self, seat: &mut KcSeat, reads: &[Seen]) -> bool
         requires table { seat.old.of ≡ self.now }
         requires idle { is_idle seat.old.seat.work ≡ true }
-        requires within { All (is_within seat.old.of.origin.locations) reads.now }
+        requires within { All (is_read_below seat.old.of.origin.locations) reads.now }
         ensures all { result ≡ true → LooksAgain seat.old reads.now seat.new }
         ensures until { result ≡ false → LooksUntil seat.old reads.now seat.new }
     {
@@ -68,7 +68,7 @@ fn look_row(
     requires here { Here words.now.key words.now.table_id base token.old.table_id token.old.me }
     requires ready { ReadySeat token.old.me began.old machine.old }
     requires idle { is_idle machine.old.work ≡ true }
-    requires within { All (is_within token.old.me.0.origin.locations) reads.now }
+    requires within { All (is_read_below token.old.me.0.origin.locations) reads.now }
     ensures ready { ReadySeat token.new.me began.new machine.new }
     ensures all { result ≡ true → LooksAgain (seat_seen_as token.old.table_id token.old.me began.old machine.old) reads.now (seat_seen_as token.new.table_id token.new.me began.new machine.new) }
     ensures until { result ≡ false → LooksUntil (seat_seen_as token.old.table_id token.old.me began.old machine.old) reads.now (seat_seen_as token.new.table_id token.new.me began.new machine.new) }
@@ -144,7 +144,7 @@ fn says(number: u64, version: u32, value: u32) -> bool
 #[inline(always)]
 fn end_row(machine: &mut Seat, made: u64, reads: &[Seen], count: usize)
     requires { count ≤ length reads.now }
-    ensures { machine.new ≡ behind machine.old made (take count reads.now) }
+    ensures { machine.new ≡ seat_behind machine.old made (take count reads.now) }
 {
     if count == 0 {
         return;

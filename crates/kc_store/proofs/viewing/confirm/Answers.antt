@@ -2,7 +2,7 @@ use Rattle.std.proofs.Common.{◌≡◌, ◌∙◌, All, Bool, false, not, refl,
 use Rattle.kc_hang.specs.kc_machine.Seats.{is_idle}
 use Rattle.kc_machine_steps.specs.declared.task.Task.TheVariants as task
 use Rattle.kc_store.proofs.Glancing.{all_within, looks_calmly, looks_may_halt, looks_straight, row_confirms, row_glances, until_ended, until_glances, until_of, until_runs, until_within}
-use Rattle.kc_table.specs.Turns.{LooksAgain, LooksUntil, is_within}
+use Rattle.kc_table.specs.Turns.{LooksAgain, LooksUntil, is_read_below}
 use Rattle.kc_store.proofs.viewing.confirm.Goals as goal
 
 -- the negation of a truth
@@ -17,7 +17,7 @@ done false e = absurd (cc)
 pub look_again-requires-clause-within : goal.look_again-requires-clause-within
 look_again-requires-clause-within c =
     let k = c.args.seat.now.of.origin.locations in
-    subst (All (is_within k)) (sym c.as_slice.ensures.value) (all_within k c.args.footprint.now.reads.items c.requires.below)
+    subst (All (is_read_below k)) (sym c.as_slice.ensures.value) (all_within k c.args.footprint.now.reads.items c.requires.below)
 
 pub returns-then-look_again-clause-confirmed : goal.returns-then-look_again-clause-confirmed
 returns-then-look_again-clause-confirmed c = λ e.

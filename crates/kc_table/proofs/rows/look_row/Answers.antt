@@ -9,7 +9,7 @@ use Rattle.kc_model.specs.declared.footprint.Seen.{Seen}
 use Rattle.kc_table.proofs.Begins.{ready_begun}
 use Rattle.kc_table.proofs.Turns.{behind_idle, behind_made, looks_once, looks_quietly, looks_ready, reads_within, row_here, row_looks, row_ready}
 use Rattle.kc_table.proofs.Wholes.{look_aims, look_busy}
-use Rattle.kc_table.specs.Turns.{LooksAgain, behind, none}
+use Rattle.kc_table.specs.Turns.{LooksAgain, seat_behind, none}
 use Rattle.kc_table_moves.specs.Origins.{Origin}
 use Rattle.kc_table_moves.specs.Rule.{ReadySeat}
 use Rattle.kc_table_moves.specs.Views.{seat_seen_as}
@@ -24,7 +24,7 @@ load_again-number-requires-clause-seat c =
     let i = c.loop-i.i in
     let d : Seen = record { loc = record { 0 = 0 }; version = 0; value = 0 } in
     let me = c.loop-i.token.me in
-    let u = behind c.loop-i.machine c.loop-i.made (take i rs) in
+    let u = seat_behind c.loop-i.machine c.loop-i.made (take i rs) in
     let lt : i < length rs = (let t = c.loop-i-test.true in omega (arith, t)) in
     let idle : is_idle u.work ≡ true = behind_idle c.loop-i.machine c.loop-i.made (take i rs) (ap (λ (s : Seat). is_idle s.work) c.loop-i.invariant.machine ∙ c.requires.idle) in
     let same = c.loop-i.invariant.here.origin ∙ sym c.requires.here.origin in
@@ -36,7 +36,7 @@ load_again-number-requires-clause-aim c =
     let rs = c.args.reads.now in
     let i = c.loop-i.i in
     let d : Seen = record { loc = record { 0 = 0 }; version = 0; value = 0 } in
-    let u = behind c.loop-i.machine c.loop-i.made (take i rs) in
+    let u = seat_behind c.loop-i.machine c.loop-i.made (take i rs) in
     let idle : is_idle u.work ≡ true = behind_idle c.loop-i.machine c.loop-i.made (take i rs) (ap (λ (s : Seat). is_idle s.work) c.loop-i.invariant.machine ∙ c.requires.idle) in
     look_aims c.args.words.now.key u (get_or rs i d).loc c.location_at-word.result idle c.location_at-word.ensures
 
@@ -51,7 +51,7 @@ returns-then-not-says-clause-ready c =
     let i = c.loop-i.i in
     let d : Seen = record { loc = record { 0 = 0 }; version = 0; value = 0 } in
     let me = c.loop-i.token.me in
-    let u = behind c.loop-i.machine c.loop-i.made (take i rs) in
+    let u = seat_behind c.loop-i.machine c.loop-i.made (take i rs) in
     let r = get_or rs i d in
     let n = c.load_again-number.result in
     let lt : i < length rs = (let t = c.loop-i-test.true in omega (arith, t)) in
@@ -67,7 +67,7 @@ returns-then-not-says-clause-until c = λ _.
     let i = c.loop-i.i in
     let d : Seen = record { loc = record { 0 = 0 }; version = 0; value = 0 } in
     let me = c.loop-i.token.me in
-    let u = behind c.loop-i.machine c.loop-i.made (take i rs) in
+    let u = seat_behind c.loop-i.machine c.loop-i.made (take i rs) in
     let r = get_or rs i d in
     let n = c.load_again-number.result in
     let lt : i < length rs = (let t = c.loop-i-test.true in omega (arith, t)) in
@@ -114,7 +114,7 @@ loop-i-preserved c =
     record {
       machine = c.loop-i.invariant.machine;
       here = i_here;
-      made = ap (λ z. (behind s m z).made) (sym more) ∙ behind_made s m xs r;
-      ready = subst (λ z. ReadySeat later false (behind s m z)) more (subst (λ k. ReadySeat later false (behind s k (xs ++ r ∷ []))) made_so i_ready);
-      looks = subst (λ z. LooksAgain start z (seat_seen_as y later false (behind s m z))) more (subst (λ k. LooksAgain start (xs ++ r ∷ []) (seat_seen_as y later false (behind s k (xs ++ r ∷ [])))) made_so i_looks);
+      made = ap (λ z. (seat_behind s m z).made) (sym more) ∙ behind_made s m xs r;
+      ready = subst (λ z. ReadySeat later false (seat_behind s m z)) more (subst (λ k. ReadySeat later false (seat_behind s k (xs ++ r ∷ []))) made_so i_ready);
+      looks = subst (λ z. LooksAgain start z (seat_seen_as y later false (seat_behind s m z))) more (subst (λ k. LooksAgain start (xs ++ r ∷ []) (seat_seen_as y later false (seat_behind s k (xs ++ r ∷ [])))) made_so i_looks);
     }
