@@ -1,7 +1,7 @@
 -- Looks that confirm, and what a view answers by them.
-use Rattle.std.proofs.Common.{◌≡◌, ◌≢◌, ◌<◌, ◌⊎◌, ◌||◌, inl, inr, Bool, true, ℕ, ◌++◌, List, [], ◌∷◌, Some, None, Option, refl, sym, ap, ◌∙◌, subst, length, Contains, get_or}
+use Rattle.std.proofs.Common.{◌≡◌, ◌≢◌, ◌<◌, ◌⊎◌, ◌||◌, inl, inr, Bool, true, false, ℕ, ◌++◌, List, [], ◌∷◌, Some, None, Option, refl, sym, ap, ◌∙◌, subst, length, All, Contains, get_or, take}
 use Rattle.std.proofs.lemmas.List.{take-map}
-use Rattle.std.proofs.lemmas.List.Elements.{Contains-get_or}
+use Rattle.std.proofs.lemmas.List.Elements.{All-contains, All-contains_itself, All-from_get_or, All-take, Contains-append_left, Contains-append_right, Contains-get_or}
 use Rattle.kc_hang.proofs.kc_table_laws.Confirming.{confirmed_later, knew_on, knows_now, look_confirms, stood_from, views_stand}
 use Rattle.kc_hang.proofs.kc_table_laws.Keeping.{keeps_same, keeps_then}
 use Rattle.kc_hang.specs.kc_machine.Seats.{is_idle}
@@ -10,7 +10,9 @@ use Rattle.kc_hang.specs.kc_machine_traces.Histories.{History, IsKnown, Placed, 
 use Rattle.kc_hang.specs.kc_machine_traces.Outcomes.{GainsAsTold}
 use Rattle.kc_hang.specs.kc_machine_traces.Traces.{first_store}
 use Rattle.kc_hang.specs.kc_table_laws.Confirmed.{SeesConfirmed, StoodForGood}
-use Rattle.kc_hang.specs.kc_table_moves.Views.{SeatView, knows, opening_at_seat}
+use Rattle.kc_hang.specs.kc_table_laws.Halts.{may_halt, was_halted}
+use Rattle.kc_hang.specs.kc_table_laws.Tasks.{KeepsKnown}
+use Rattle.kc_hang.specs.kc_table_moves.Views.{Ran, RanQuietly, SeatView, knows, opening_at_seat}
 use Rattle.kc_hang.specs.kc_table_views.Known.{IsMeant}
 use Rattle.kc_machine_steps.specs.declared.task.Task.{Task}
 use Rattle.kc_machine_steps.specs.declared.task.Task.TheVariants as task
@@ -24,20 +26,21 @@ use Rattle.kc_model.specs.declared.footprint.Loc.{Loc}
 use Rattle.kc_model.specs.declared.footprint.Seen.{Seen}
 use Rattle.kc_model.specs.declared.reply.Reply.{Reply}
 use Rattle.kc_store.proofs.Among.{first_or_later, nothing_in}
-use Rattle.kc_store.proofs.Coming.{ended_worn}
-use Rattle.kc_store.proofs.Doing.{did_gains}
+use Rattle.kc_store.proofs.Coming.{did_worn}
+use Rattle.kc_store.proofs.Doing.{did_gains, did_keeps}
+use Rattle.kc_store.proofs.Ending.{free, may_be_halted, runs}
 use Rattle.kc_store.proofs.Gaining.{does_meant}
-use Rattle.kc_store.proofs.Looking.{advances_same, advances_then, ends_advance}
+use Rattle.kc_store.proofs.Looking.{advances_same, advances_then}
 use Rattle.kc_store.proofs.Remembering.{entries_within, within_on}
-use Rattle.kc_store.proofs.Seeing.{ended_keeps}
+use Rattle.kc_hang.proofs.kc_table_laws.Running.{ran_same}
 use Rattle.kc_store.proofs.Settling.{looked_keeps, looked_worn, looked_none as looked_none_own, settles_from}
 use Rattle.kc_store.specs.Answers.{PutsNothing, own_entries}
 use Rattle.kc_store.specs.Knows.{AddsOne, IsTold, IsWithin, OnlyLearns, entry_of}
-use Rattle.kc_store.specs.Tries.{Did, Sees, look_of}
+use Rattle.kc_store.specs.Tries.{Did, Sees}
 use Rattle.kc_store.specs.Verdicts.{is_final, is_worn_pool, verdict_of}
-use Rattle.kc_store.specs.Viewing.{FrontMakes, Glances, Glimpses, IsCommittedSo, IsGlimpsed, IsViewed, SawTheSame, StandsAtOnce, WouldPut, is_settled, is_worn_went, stands_as, viewed_as}
+use Rattle.kc_store.specs.Viewing.{FrontMakes, Glances, Glimpses, IsCommittedSo, IsGlimpsed, IsViewed, StandsAtOnce, WouldPut, is_settled, is_worn_went, stands_as, viewed_as}
 use Rattle.kc_store.specs.Views.{CallerView, caller_view}
-use Rattle.kc_store.specs.Works.{AllLooked, EndsOrIsLeft, IsFrom}
+use Rattle.kc_store.specs.Works.{AllLooked, IsFrom, MayRun, Runs}
 use Rattle.kc_store.specs.declared.budget.Budget.{Budget}
 use Rattle.kc_store.specs.declared.verdict.Answered.{Answered}
 use Rattle.kc_store.specs.declared.verdict.Answered.TheVariants as answered
@@ -45,6 +48,7 @@ use Rattle.kc_store.specs.declared.viewing.Glimpse.{Glimpse}
 use Rattle.kc_store.specs.declared.viewing.Glimpse.TheVariants as glimpse
 use Rattle.kc_store.specs.declared.viewing.Viewed.{Viewed}
 use Rattle.kc_store.specs.declared.viewing.Viewed.TheVariants as viewed
+use Rattle.kc_table.specs.Turns.{LooksAgain, LooksUntil, is_read_below, none as no_look, one as one_look}
 use Rattle.kc_xt.specs.Commit.{Came, Looked, PutsWhereDone, tried_of}
 use Rattle.kc_xt.specs.Meaning.{Meaning}
 use Rattle.kc_xt.specs.declared.attempts.Tried.{Tried}
@@ -80,36 +84,41 @@ looked_none k l (Some told.Halted) x y g = g
 looked_none k l (Some told.Worn) x y g = g
 looked_none k l (Some (told.Changed j)) x y g = g
 
-module _ (v : SeatView) (b : Budget) (l : ℕ) (r : Told) (w : SeatView) (idle : is_idle v.seat.work ≡ true) (g : EndsOrIsLeft (look_of l) v b r w) where
+-- a look that ended
+module _ (v w : SeatView) (l : Loc) (run : MayRun v (task.Look l) w) (ended : is_idle w.seat.work ≡ true) where
+  keeps : KeepsKnown v w
+  keeps = did_keeps v w (task.Look l) run.did
+
   pub one_glance : Glances v w
   one_glance = record {
-    advances = ends_advance v b (look_of l) r w idle g;
-    keeps = ended_keeps v b (look_of l) r w g;
-    none = none g;
-    stays = ended_worn v b (look_of l) r w g;
+    advances = record { of = keeps.of; number = keeps.number; idle = ended; blocked = run.stands.blocked; counts = run.stands.counts; no_more = run.stands.no_more };
+    keeps = keeps;
+    none = looked_none v.number l w.seat.told (own_entries v) (own_entries w) (did_gains v w (task.Look l) run.did ended);
+    stays = did_worn v w (task.Look l) run.did;
   }
-    where
-      none : EndsOrIsLeft (look_of l) v b r w → own_entries w ≡ own_entries v
-      none (inl (has, e)) = looked_none v.number (record { 0 = l }) w.seat.told (own_entries v) (own_entries w) (did_gains v w (look_of l) e.ran.did e.idle)
-      none (inr (left, was, stays)) = ap own_entries stays
 
   -- what was confirmed stays so
   pub still_confirmed : (p : ℕ) (s : Seen) → SeesConfirmed v p s → SeesConfirmed w p s
-  still_confirmed p s c = go g
-    where
-      go : EndsOrIsLeft (look_of l) v b r w → SeesConfirmed w p s
-      go (inl (has, e)) = confirmed_later v w one_glance.keeps p s (did_meant v w (look_of l) e.ran.did) c
-      go (inr (left, was, stays)) = subst (λ z. SeesConfirmed z p s) (sym stays) c
+  still_confirmed p s c = confirmed_later v w keeps p s (did_meant v w (task.Look l) run.did) c
+
+-- a look that was begun in one call
+module _ (v w : SeatView) (l : Loc) (idle : is_idle v.seat.work ≡ true) (within : l.0 < v.of.origin.locations) (quiet : RanQuietly v (task.Look l) w) where
+  abbrev ran : Ran v (task.Look l) w
+  ran = record { steps = quiet.steps.steps; shown = quiet.shown }
+
+  pub looks : Runs v (task.Look l) w
+  looks = runs (task.Look l) v w refl idle within ran
+
+  pub looks_straight : MayRun v (task.Look l) w
+  looks_straight = record { did = inl looks.does; stands = looks.stands }
+
+  pub looks_calmly : was_halted w.seat ≡ false
+  looks_calmly = (free (task.Look l) v w refl idle within ran).1
+
+  pub looks_may_halt : is_idle w.seat.work ≡ false → may_halt w.seat.work ≡ true
+  looks_may_halt = may_be_halted (task.Look l) v w refl idle within ran
 
 -- ---- all reads
-
--- the first so many are confirmed, since v
-pub record HasConfirmed (v : SeatView) (rs : List Seen) (w : SeatView) : Type 0 where
-  pub glances : Glances v w
-  pub sees : (r : Seen) → Contains rs r → SeesConfirmed w (length v.past) r
-
-pub none_confirmed : (v : SeatView) → is_idle v.seat.work ≡ true → HasConfirmed v [] v
-none_confirmed v idle = record { glances = glances_same v idle; sees = λ r c. nothing_in r c }
 
 in_more : (rs : List Seen) (s r : Seen) → Contains (rs ++ s ∷ []) r → Contains rs r ⊎ (s ≡ r)
 in_more [] s r c = go (first_or_later s [] r c)
@@ -127,23 +136,59 @@ in_more (x ∷ rs) s r c = go (first_or_later x (rs ++ s ∷ []) r c) (in_more r
         later (inl d) = inl (Contains-later x rs r d)
         later (inr e) = inr e
 
-module _ (v u w : SeatView) (b : Budget) (rs : List Seen) (s : Seen) (r : Told) (h : HasConfirmed v rs u) (g : EndsOrIsLeft (look_of s.loc.0) u b r w) where
-  pub glanced_on : Glances v w
-  glanced_on = glances_then v u w h.glances (one_glance u b s.loc.0 r w h.glances.advances.idle g)
-
-  pub one_more : IsKnown (first_store (opening_at_seat v)) (knows v) s → s.loc.0 < v.of.origin.locations → SawTheSame s u w → HasConfirmed v (rs ++ s ∷ []) w
-  one_more known within same = record { glances = glanced_on; sees = λ x c. go x (in_more rs s x c) }
-    where
-      here : SeesConfirmed w (length v.past) s
-      here = look_confirms u w s.loc same.now s (length v.past) h.glances.advances.idle (subst (λ z. s.loc.0 < z.origin.locations) (sym h.glances.keeps.of) within) same.step same.says refl same.version
-          (knew_on v u h.glances.keeps (length v.past) s (knows_now v s known))
-
-      go : (x : Seen) → Contains rs x ⊎ (s ≡ x) → SeesConfirmed w (length v.past) x
-      go x (inl c) = still_confirmed u b s.loc.0 r w h.glances.advances.idle g (length v.past) x (h.sees x c)
-      go x (inr e) = subst (SeesConfirmed w (length v.past)) e here
-
 pub in_reads : (rs : List Seen) (i : ℕ) (d : Seen) → i < length rs → Contains rs (get_or rs i d)
 in_reads rs i d l = Contains-get_or rs i d l
+
+abbrev pub LieWithin : ℕ → List Seen → Type 0
+LieWithin k rs = (r : Seen) → Contains rs r → r.loc.0 < k
+
+pub all_within : (k : ℕ) (rs : List Seen) → LieWithin k rs → All (is_read_below k) rs
+all_within k rs h = All-from_get_or (is_read_below k) rs (record { loc = record { 0 = 0 }; version = 0; value = 0 }) (λ i lt. h (get_or rs i (record { loc = record { 0 = 0 }; version = 0; value = 0 })) (in_reads rs i (record { loc = record { 0 = 0 }; version = 0; value = 0 }) lt))
+
+-- looks that found what the reads say
+pub row_glances : (v w : SeatView) (rs : List Seen) → is_idle v.seat.work ≡ true → LieWithin v.of.origin.locations rs → LooksAgain v rs w → Glances v w
+row_glances v _ _ idle lie no_look = glances_same v idle
+row_glances v _ _ idle lie (one_look rs u r w a s) =
+    let g = row_glances v u rs idle (λ x c. lie x (Contains-append_left rs (r ∷ []) x c)) a in
+    let here = subst (λ z. r.loc.0 < z.origin.locations) (sym g.keeps.of) (lie r (Contains-append_right rs (r ∷ []) r (Contains-first r []))) in
+    glances_then v u w g (one_glance u w r.loc (looks_straight u w r.loc g.advances.idle here s.quiet) s.idle)
+
+pub row_confirms : (v w : SeatView) (rs : List Seen) → is_idle v.seat.work ≡ true → LieWithin v.of.origin.locations rs → ((r : Seen) → Contains rs r → IsKnown (first_store (opening_at_seat v)) (knows v) r) → LooksAgain v rs w
+    → (x : Seen) → Contains rs x → SeesConfirmed w (length v.past) x
+row_confirms v _ _ idle lie known no_look x c = nothing_in x c
+row_confirms v _ _ idle lie known (one_look rs u r w a s) x c =
+    go (in_more rs r x c) (row_confirms v u rs idle (λ y d. lie y (Contains-append_left rs (r ∷ []) y d)) (λ y d. known y (Contains-append_left rs (r ∷ []) y d)) a x)
+  where
+    g : Glances v u
+    g = row_glances v u rs idle (λ y d. lie y (Contains-append_left rs (r ∷ []) y d)) a
+
+    last : Contains (rs ++ r ∷ []) r
+    last = Contains-append_right rs (r ∷ []) r (Contains-first r [])
+
+    here : r.loc.0 < u.of.origin.locations
+    here = subst (λ z. r.loc.0 < z.origin.locations) (sym g.keeps.of) (lie r last)
+
+    go : Contains rs x ⊎ (r ≡ x) → (Contains rs x → SeesConfirmed u (length v.past) x) → SeesConfirmed w (length v.past) x
+    go (inl d) before = still_confirmed u w r.loc (looks_straight u w r.loc g.advances.idle here s.quiet) s.idle (length v.past) x (before d)
+    go (inr e) before = subst (SeesConfirmed w (length v.past)) e (look_confirms u w r.loc r r (length v.past) g.advances.idle here s.once s.told refl refl (knew_on v u g.keeps (length v.past) r (knows_now v r (known r last))))
+
+-- a row that another word ended
+module _ (v w : SeatView) (rs : List Seen) (idle : is_idle v.seat.work ≡ true) (lie : LieWithin v.of.origin.locations rs) (a : LooksUntil v rs w) where
+  pub until_glances : Glances v a.u
+  until_glances = row_glances v a.u (take a.front rs) idle (λ x c. lie x (All-contains (Contains rs) (take a.front rs) x (All-take (Contains rs) a.front rs (All-contains_itself rs)) c)) a.looked
+
+  pub until_within : a.r.loc.0 < a.u.of.origin.locations
+  until_within = subst (λ z. a.r.loc.0 < z.origin.locations) (sym until_glances.keeps.of) (lie a.r (subst (Contains rs) (sym a.next) (in_reads rs a.front a.r a.within)))
+
+  pub until_runs : Runs a.u (task.Look a.r.loc) w
+  until_runs = looks a.u w a.r.loc until_glances.advances.idle until_within a.quiet
+
+  pub until_of : w.of ≡ v.of
+  until_of = (ran_same a.u w (task.Look a.r.loc) (ran a.u w a.r.loc until_glances.advances.idle until_within a.quiet)).0 ∙ until_glances.keeps.of
+
+  -- and whatever ended its last look
+  pub until_ended : (x : SeatView) → MayRun a.u (task.Look a.r.loc) x → is_idle x.seat.work ≡ true → Glances v x
+  until_ended x run ended = glances_then v a.u x until_glances (one_glance a.u x a.r.loc run ended)
 
 -- ---- the looks of the transaction
 

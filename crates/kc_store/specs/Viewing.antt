@@ -3,14 +3,11 @@ use Rattle.std.specs.Prelude.{◌≡◌, ◌≢◌, ◌≤◌, ◌⊎◌, ℕ, [
 use Rattle.kc_hang.specs.kc_machine_traces.Histories.{made}
 use Rattle.kc_hang.specs.kc_table_laws.Confirmed.{StoodForGood}
 use Rattle.kc_hang.specs.kc_table_laws.Tasks.{KeepsKnown}
-use Rattle.kc_hang.specs.kc_table_moves.Views.{SeatView, Stepped, begun_at}
-use Rattle.kc_machine_steps.specs.declared.task.Task.TheVariants as task
-use Rattle.kc_machine_steps.specs.declared.task.Told.TheVariants as told
+use Rattle.kc_hang.specs.kc_table_moves.Views.{SeatView}
 use Rattle.kc_model.specs.Store.{Finds, Store}
 use Rattle.kc_model.specs.declared.footprint.Entry.{Entry}
 use Rattle.kc_model.specs.declared.footprint.Footprint.{Footprint}
 use Rattle.kc_model.specs.declared.footprint.Loc.{Loc}
-use Rattle.kc_model.specs.declared.footprint.Seen.{Seen}
 use Rattle.kc_model.specs.declared.reply.Answer.TheVariants as answer
 use Rattle.kc_model.specs.declared.reply.Reply.{Reply}
 use Rattle.kc_store.specs.Answers.{IsBusy, PutsNothing, Settles, own_entries}
@@ -34,13 +31,6 @@ use Rattle.kc_xt.specs.declared.room.Went.{Went}
 use Rattle.kc_xt.specs.declared.room.Went.TheVariants as went
 
 -- ---- by a seat
-
--- a look of one step that was told what has the read's version
-pub record SawTheSame (r : Seen) (v w : SeatView) : Type 0 where
-  pub step : Stepped (begun_at v (task.Look r.loc)) w
-  pub now : Seen
-  pub says : w.seat.told ≡ Some (told.Seen now)
-  pub version : r.version ≡ now.version
 
 -- the seat has looked, and is idle again; no entry is its own by that
 pub record Glances (v w : SeatView) : Type 0 where

@@ -1,30 +1,27 @@
 //! Views: transactions that put nothing, run on looks that are confirmed, and leave no entry.
 
-ghost use Rattle.std.specs.Prelude.{◌≡◌, ◌≢◌, ◌⊎◌, ◌<◌, ◌≤◌, true, false, [], length};
+ghost use Rattle.std.specs.Prelude.{◌≡◌, ◌≢◌, ◌⊎◌, ◌≤◌, true, false, [], length};
 ghost use Rattle.kc_hang.specs.kc_machine.Seats.{is_idle};
 ghost use Rattle.kc_hang.specs.kc_machine_traces.Histories.{IsKnown};
 ghost use Rattle.kc_hang.specs.kc_machine_traces.Traces.{first_store};
 ghost use Rattle.kc_hang.specs.kc_table_laws.Confirmed.{SeesConfirmed};
 ghost use Rattle.kc_hang.specs.kc_table_moves.Views.{knows, opening_at_seat};
-ghost use Rattle.kc_machine_steps.specs.declared.task.Told.{Told as ToldValue};
 ghost use Rattle.kc_model.specs.Footprint.{IsBelow, Reads};
 ghost use Rattle.kc_model.specs.declared.footprint.Seen.{Seen as SeenValue};
 ghost use Rattle.kc_store.specs.Answers.{GainsNothing};
 ghost use Rattle.kc_store.specs.Knows.{OnlyLearns, Remembers};
 ghost use Rattle.kc_store.specs.Steps.{busy_bound};
-ghost use Rattle.kc_store.specs.Tries.{look_of};
-ghost use Rattle.kc_store.specs.Viewing.{Glances, Glimpses, IsGlimpsed, IsViewed, SawTheSame, glimpse_as, has_reads, is_settled, is_worn_went, viewed_as};
-ghost use Rattle.kc_store.specs.Works.{EndsOrIsLeft};
+ghost use Rattle.kc_store.specs.Viewing.{Glances, Glimpses, IsGlimpsed, IsViewed, glimpse_as, has_reads, is_settled, is_worn_went, viewed_as};
 ghost use Rattle.kc_xt.specs.Commit.{tried_of};
 ghost use Rattle.kc_xt.specs.Meaning.{limited};
 
 use crate::budget::Budget;
 use crate::committing::{FIRST_PAUSES, MOST_PAUSES};
-use crate::looks::{look_and_run, seen_by};
+use crate::looks::look_and_run;
 use crate::store::{Caller, Store};
 use crate::tasks::end_look;
 use crate::verdict::Answered;
-use kc_model::{Footprint, Reply, Seen};
+use kc_model::{Footprint, Reply};
 use kc_table::{KcSeat, KcTable};
 use kc_xt::{Room, Transact, Trial, Went, rest};
 use std::sync::Wait;
@@ -256,7 +253,7 @@ fn puts(went: Went, footprint: &Footprint) -> bool
     footprint.puts.len() != 0
 }
 
-// Looks at all reads once more. True where a plain word of the same version stood at each.
+// Looks at all reads once more. True where the plain word that each says stood there.
 #[inline(always)]
 fn confirm(table: &KcTable, seat: &mut KcSeat, footprint: &Footprint, budget: Budget) -> bool
     requires table { seat.old.of ≡ table.now }
@@ -266,32 +263,12 @@ fn confirm(table: &KcTable, seat: &mut KcSeat, footprint: &Footprint, budget: Bu
     ensures confirmed { result ≡ true → (r : SeenValue) → Reads footprint.now r → SeesConfirmed seat.new (length seat.old.past) r }
     ensures goes { Glances seat.old seat.new }
 {
-    for i in 0..footprint.reads.len() {
-        let seen = footprint.reads.as_slice()[i];
-        if !confirms(table, seat, seen, budget) {
-            return false;
-        }
+    if table.look_again(seat, footprint.reads.as_slice()) {
+        return true;
     }
-    true
-}
-
-// Looks at a read once more, by one step.
-#[inline(always)]
-fn confirms(table: &KcTable, seat: &mut KcSeat, seen: Seen, budget: Budget) -> bool
-    requires table { seat.old.of ≡ table.now }
-    requires idle { is_idle seat.old.seat.work ≡ true }
-    requires within { seen.loc.0 < seat.old.of.origin.locations }
-    ensures looks { (a : ToldValue) × EndsOrIsLeft (look_of seen.loc.0) seat.old budget a seat.new }
-    ensures same { result ≡ true → SawTheSame seen seat.old seat.new }
-{
-    if !budget.has_steps(seat) {
-        return false;
+    if seat.busy() {
+        end_look(table, seat, budget);
     }
-    if let Some(now) = table.look(seat, seen.loc) {
-        return now.version == seen.version;
-    }
-    end_look(table, seat, budget);
-    let _ = seen_by(seat.told());
     false
 }
 

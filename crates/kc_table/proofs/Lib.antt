@@ -5,6 +5,7 @@ pub mod Waits
 pub mod Read
 pub mod Closing
 mod Wholes
+mod Turns
 mod Swapping
 pub use Rattle.kc_table_straight.proofs.kc_machine_history as kc_machine_history
 pub use Rattle.kc_table_straight.proofs.kc_machine_traces as kc_machine_traces

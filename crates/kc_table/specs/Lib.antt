@@ -1,3 +1,4 @@
+pub mod Turns
 pub mod Swaps
 pub use Rattle.kc_machine.specs as kc_machine
 pub use Rattle.kc_table_straight.specs.kc_machine_traces as kc_machine_traces

@@ -4,6 +4,7 @@
 mod calls;
 mod end;
 mod open;
+mod rows;
 mod seat;
 mod swaps;
 mod table;

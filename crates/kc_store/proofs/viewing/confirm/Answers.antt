@@ -1,51 +1,83 @@
-use Rattle.std.proofs.Common.{◌<◌, ◌≤◌, ◌∙◌, ◌++◌, [], ◌∷◌, arith, length, subst, sym, ap, take, Contains, get_or}
-use Rattle.std.proofs.lemmas.List.{take_all, take_more}
-use Rattle.kc_hang.specs.kc_table_moves.Views.{TableView}
-use Rattle.kc_model.specs.declared.footprint.Seen.{Seen}
-use Rattle.kc_store.proofs.Glancing.{HasConfirmed, glanced_on, in_reads, none_confirmed, one_more}
+use Rattle.std.proofs.Common.{◌≡◌, ◌∙◌, All, Bool, false, not, refl, subst, sym, true}
+use Rattle.kc_hang.specs.kc_machine.Seats.{is_idle}
+use Rattle.kc_machine_steps.specs.declared.task.Task.TheVariants as task
+use Rattle.kc_store.proofs.Glancing.{all_within, looks_calmly, looks_may_halt, looks_straight, row_confirms, row_glances, until_ended, until_glances, until_of, until_runs, until_within}
+use Rattle.kc_table.specs.Turns.{LooksAgain, LooksUntil, is_read_below}
 use Rattle.kc_store.proofs.viewing.confirm.Goals as goal
 
-pub loop-i-init : goal.loop-i-init
-loop-i-init c = none_confirmed c.args.seat.now c.requires.idle
+-- the negation of a truth
+undone : (b : Bool) → not b ≡ true → b ≡ false
+undone false e = refl
+undone true e = absurd (cc)
 
-pub confirms-requires-clause-table : goal.confirms-requires-clause-table
-confirms-requires-clause-table c = c.loop-i.invariant.glances.keeps.of ∙ c.requires.table
+done : (b : Bool) → not b ≡ false → b ≡ true
+done true e = refl
+done false e = absurd (cc)
 
-pub confirms-requires-clause-idle : goal.confirms-requires-clause-idle
-confirms-requires-clause-idle c = c.loop-i.invariant.glances.advances.idle
+pub look_again-requires-clause-within : goal.look_again-requires-clause-within
+look_again-requires-clause-within c =
+    let k = c.args.seat.now.of.origin.locations in
+    subst (All (is_read_below k)) (sym c.as_slice.ensures.value) (all_within k c.args.footprint.now.reads.items c.requires.below)
 
-pub confirms-requires-clause-within : goal.confirms-requires-clause-within
-confirms-requires-clause-within c =
+pub returns-then-look_again-clause-confirmed : goal.returns-then-look_again-clause-confirmed
+returns-then-look_again-clause-confirmed c = λ e.
+    let v = c.args.seat.now in
+    let w = c.look_again.new.seat in
     let rs = c.args.footprint.now.reads.items in
-    let lt : c.loop-i.i < length rs = (let t = c.loop-i-test.true in let n = c.len-i-end.ensures.value in omega (arith, t, n)) in
-    let d : Seen = record { loc = record { 0 = 0 }; version = 0; value = 0 } in
-    subst (λ (z : TableView). (get_or c.as_slice.result.now c.loop-i.i d).loc.0 < z.origin.locations) (sym c.loop-i.invariant.glances.keeps.of)
-    (c.requires.below (get_or c.as_slice.result.now c.loop-i.i d) (subst (λ z. Contains rs (get_or z c.loop-i.i d)) (sym c.as_slice.ensures.value) (in_reads rs c.loop-i.i d lt)))
+    row_confirms v w rs c.requires.idle c.requires.below c.requires.known (subst (λ z. LooksAgain v z w) c.as_slice.ensures.value (c.look_again.ensures.all c.if-look_again.true))
 
-pub returns-then-not-confirms-clause-goes : goal.returns-then-not-confirms-clause-goes
-returns-then-not-confirms-clause-goes c =
-    let d : Seen = record { loc = record { 0 = 0 }; version = 0; value = 0 } in
-    let g = c.confirms.ensures.looks in
-    glanced_on c.args.seat.now c.loop-i.seat c.confirms.new.seat c.args.budget (take c.loop-i.i c.args.footprint.now.reads.items) (get_or c.as_slice.result.now c.loop-i.i d) g.0 c.loop-i.invariant g.1
-
-pub loop-i-preserved : goal.loop-i-preserved
-loop-i-preserved c =
+pub returns-then-look_again-clause-goes : goal.returns-then-look_again-clause-goes
+returns-then-look_again-clause-goes c =
+    let v = c.args.seat.now in
+    let w = c.look_again.new.seat in
     let rs = c.args.footprint.now.reads.items in
-    let i = c.loop-i.i in
-    let lt : i < length rs = (let t = c.loop-i-test.true in let n = c.len-i-end.ensures.value in omega (arith, t, n)) in
-    let d : Seen = record { loc = record { 0 = 0 }; version = 0; value = 0 } in
-    let s = get_or c.as_slice.result.now i d in
-    let same = ap (λ z. get_or z i d) c.as_slice.ensures.value in
-    let in_it : Contains rs s = subst (Contains rs) (sym same) (in_reads rs i d lt) in
-    let g = c.confirms.ensures.looks in
-    subst (λ z. HasConfirmed c.args.seat.now z c.confirms.new.seat) (ap (λ z. take i rs ++ z ∷ []) same ∙ sym (take_more rs i d lt))
-    (one_more c.args.seat.now c.loop-i.seat c.confirms.new.seat c.args.budget (take i rs) s g.0 c.loop-i.invariant g.1 (c.requires.known s in_it) (c.requires.below s in_it) (c.confirms.ensures.same c.if-not-confirms.false))
+    row_glances v w rs c.requires.idle c.requires.below (subst (λ z. LooksAgain v z w) c.as_slice.ensures.value (c.look_again.ensures.all c.if-look_again.true))
 
-pub returns-clause-confirmed : goal.returns-clause-confirmed
-returns-clause-confirmed c = λ e r x.
+pub end_look-requires-clause-table : goal.end_look-requires-clause-table
+end_look-requires-clause-table c =
+    let v = c.args.seat.now in
+    let w = c.look_again.new.seat in
     let rs = c.args.footprint.now.reads.items in
-    let all : length rs ≤ c.loop-i.i = (let t = c.loop-i-test.false in let n = c.len-i-end.ensures.value in omega (arith, t, n)) in
-    c.loop-i.invariant.sees r (subst (λ z. Contains z r) (sym (take_all c.loop-i.i rs all)) x)
+    let a = subst (λ z. LooksUntil v z w) c.as_slice.ensures.value (c.look_again.ensures.until c.if-look_again.false) in
+    until_of v w rs c.requires.idle c.requires.below a ∙ c.requires.table
 
-pub returns-clause-goes : goal.returns-clause-goes
-returns-clause-goes c = c.loop-i.invariant.glances
+pub end_look-requires-clause-calm : goal.end_look-requires-clause-calm
+end_look-requires-clause-calm c =
+    let v = c.args.seat.now in
+    let w = c.look_again.new.seat in
+    let rs = c.args.footprint.now.reads.items in
+    let a = subst (λ z. LooksUntil v z w) c.as_slice.ensures.value (c.look_again.ensures.until c.if-look_again.false) in
+    looks_calmly a.u w a.r.loc (until_glances v w rs c.requires.idle c.requires.below a).advances.idle (until_within v w rs c.requires.idle c.requires.below a) a.quiet
+
+pub end_look-requires-clause-halts : goal.end_look-requires-clause-halts
+end_look-requires-clause-halts c =
+    let v = c.args.seat.now in
+    let w = c.look_again.new.seat in
+    let rs = c.args.footprint.now.reads.items in
+    let a = subst (λ z. LooksUntil v z w) c.as_slice.ensures.value (c.look_again.ensures.until c.if-look_again.false) in
+    looks_may_halt a.u w a.r.loc (until_glances v w rs c.requires.idle c.requires.below a).advances.idle (until_within v w rs c.requires.idle c.requires.below a) a.quiet (undone (is_idle w.seat.work) (sym c.busy.ensures ∙ c.if-busy.true))
+
+pub end_look-requires-clause-looks : goal.end_look-requires-clause-looks
+end_look-requires-clause-looks c =
+    let v = c.args.seat.now in
+    let w = c.look_again.new.seat in
+    let rs = c.args.footprint.now.reads.items in
+    let a = subst (λ z. LooksUntil v z w) c.as_slice.ensures.value (c.look_again.ensures.until c.if-look_again.false) in
+    (until_runs v w rs c.requires.idle c.requires.below a).stands.in_task
+
+pub returns-then-busy-clause-goes : goal.returns-then-busy-clause-goes
+returns-then-busy-clause-goes c =
+    let v = c.args.seat.now in
+    let w = c.look_again.new.seat in
+    let rs = c.args.footprint.now.reads.items in
+    let a = subst (λ z. LooksUntil v z w) c.as_slice.ensures.value (c.look_again.ensures.until c.if-look_again.false) in
+    until_ended v w rs c.requires.idle c.requires.below a c.end_look.new.seat (c.end_look.ensures.runs a.u (task.Look a.r.loc) (until_runs v w rs c.requires.idle c.requires.below a)) c.end_look.ensures.idle
+
+pub returns-else-busy-clause-goes : goal.returns-else-busy-clause-goes
+returns-else-busy-clause-goes c =
+    let v = c.args.seat.now in
+    let w = c.look_again.new.seat in
+    let rs = c.args.footprint.now.reads.items in
+    let a = subst (λ z. LooksUntil v z w) c.as_slice.ensures.value (c.look_again.ensures.until c.if-look_again.false) in
+    let idle = (until_glances v w rs c.requires.idle c.requires.below a).advances.idle in
+    until_ended v w rs c.requires.idle c.requires.below a w (looks_straight a.u w a.r.loc idle (until_within v w rs c.requires.idle c.requires.below a) a.quiet) (done (is_idle w.seat.work) (sym c.busy.ensures ∙ c.if-busy.false))

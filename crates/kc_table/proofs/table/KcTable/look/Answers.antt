@@ -1,7 +1,7 @@
 use Rattle.std.proofs.Common.{◌≡◌, ◌∙◌, ap, refl, sym, true}
 use Rattle.kc_machine.specs.Seats.{is_idle}
 use Rattle.kc_machine_steps.specs.declared.task.Task.TheVariants.{Look}
-use Rattle.kc_model.specs.declared.word.Word.TheVariants.{Plain}
+use Rattle.kc_model.specs.Word.{unpacked}
 use Rattle.kc_table.proofs.Begins.{ready_begun}
 use Rattle.kc_table.proofs.Wholes.{look_busy, look_ran, look_stands, look_steps, ran}
 use Rattle.kc_table_layout.specs.Cells.{base_of}
@@ -24,52 +24,27 @@ load_look-number-requires-clause-seat c =
 pub load_look-number-requires-clause-plain : goal.load_look-number-requires-clause-plain
 load_look-number-requires-clause-plain c = λ n. refl
 
-pub returns-in-Plain-clause-quiet : goal.returns-in-Plain-clause-quiet
-returns-in-Plain-clause-quiet c =
+pub returns-clause-quiet : goal.returns-clause-quiet
+returns-clause-quiet c =
     let s = c.seat.inside.machine in
     let me = c.seat.inside.token.me in
     let later = c.load_look-number.new.token.me in
     let n = c.load_look-number.result in
-    let u = c.end_look.new.seat in
+    let u = c.tell.new.seat in
     let idle : is_idle s.work ≡ true = ap (λ (v : SeatView). is_idle v.seat.work) c.seat.view_is ∙ c.requires.idle in
     look_ran c.seat.inside.token.table_id c.load_look-number.new.token.table_id me later c.seat.inside.began s u c.args.seat.now c.args.loc n idle c.seat.view_is c.load_look-number.ensures.table c.load_look-number.ensures.moved
-    (look_stands s u me later c.args.loc n (Plain c.in-Plain.version c.in-Plain.value) idle c.load_look-number.ensures.moved c.in-Plain.ensures.back c.end_look.ensures)
+    (look_stands s u me later c.args.loc n (unpacked n) idle c.load_look-number.ensures.moved c.tell.ensures.back c.tell.ensures.answered)
 
-pub returns-in-Plain-clause-ran : goal.returns-in-Plain-clause-ran
-returns-in-Plain-clause-ran c = ran _ _ _ (returns-in-Plain-clause-quiet c)
+pub returns-clause-ran : goal.returns-clause-ran
+returns-clause-ran c = ran _ _ _ (returns-clause-quiet c)
 
-pub returns-in-Ref-clause-quiet : goal.returns-in-Ref-clause-quiet
-returns-in-Ref-clause-quiet c =
+pub returns-clause-once : goal.returns-clause-once
+returns-clause-once c =
     let s = c.seat.inside.machine in
     let me = c.seat.inside.token.me in
     let later = c.load_look-number.new.token.me in
     let n = c.load_look-number.result in
-    let u = c.look_on.new.seat in
-    let idle : is_idle s.work ≡ true = ap (λ (v : SeatView). is_idle v.seat.work) c.seat.view_is ∙ c.requires.idle in
-    look_ran c.seat.inside.token.table_id c.load_look-number.new.token.table_id me later c.seat.inside.began s u c.args.seat.now c.args.loc n idle c.seat.view_is c.load_look-number.ensures.table c.load_look-number.ensures.moved
-    (look_stands s u me later c.args.loc n c.unpack-in-Ref.result idle c.load_look-number.ensures.moved c.unpack-in-Ref.ensures.back c.look_on.ensures)
-
-pub returns-in-Ref-clause-ran : goal.returns-in-Ref-clause-ran
-returns-in-Ref-clause-ran c = ran _ _ _ (returns-in-Ref-clause-quiet c)
-
-pub returns-in-Plain-clause-once : goal.returns-in-Plain-clause-once
-returns-in-Plain-clause-once c =
-    let s = c.seat.inside.machine in
-    let me = c.seat.inside.token.me in
-    let later = c.load_look-number.new.token.me in
-    let n = c.load_look-number.result in
-    let u = c.end_look.new.seat in
+    let u = c.tell.new.seat in
     let idle : is_idle s.work ≡ true = ap (λ (v : SeatView). is_idle v.seat.work) c.seat.view_is ∙ c.requires.idle in
     look_steps c.seat.inside.token.table_id c.load_look-number.new.token.table_id me later c.seat.inside.began s u c.args.seat.now c.args.loc n c.seat.view_is c.load_look-number.ensures.table c.load_look-number.ensures.moved
-    (look_stands s u me later c.args.loc n (Plain c.in-Plain.version c.in-Plain.value) idle c.load_look-number.ensures.moved c.in-Plain.ensures.back c.end_look.ensures)
-
-pub returns-in-Ref-clause-once : goal.returns-in-Ref-clause-once
-returns-in-Ref-clause-once c =
-    let s = c.seat.inside.machine in
-    let me = c.seat.inside.token.me in
-    let later = c.load_look-number.new.token.me in
-    let n = c.load_look-number.result in
-    let u = c.look_on.new.seat in
-    let idle : is_idle s.work ≡ true = ap (λ (v : SeatView). is_idle v.seat.work) c.seat.view_is ∙ c.requires.idle in
-    look_steps c.seat.inside.token.table_id c.load_look-number.new.token.table_id me later c.seat.inside.began s u c.args.seat.now c.args.loc n c.seat.view_is c.load_look-number.ensures.table c.load_look-number.ensures.moved
-    (look_stands s u me later c.args.loc n c.unpack-in-Ref.result idle c.load_look-number.ensures.moved c.unpack-in-Ref.ensures.back c.look_on.ensures)
+    (look_stands s u me later c.args.loc n (unpacked n) idle c.load_look-number.ensures.moved c.tell.ensures.back c.tell.ensures.answered)

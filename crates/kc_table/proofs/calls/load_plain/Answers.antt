@@ -3,7 +3,7 @@ use Rattle.kc_table_layout.specs.declared.change.Change.TheVariants as change
 use Rattle.kc_table.proofs.Wholes.{load_leaves}
 use Rattle.kc_table_moves.proofs.Steps.{aims_own, at_once, here_behind, moved_behind, one_glance, peeked_step, ready_behind}
 use Rattle.kc_table_moves.specs.declared.view.TheConstants.{MOST_LOADS}
-use Rattle.kc_table.proofs.calls.load_look.Goals as goal
+use Rattle.kc_table.proofs.calls.load_plain.Goals as goal
 
 pub peek-number-requires-clause-aim : goal.peek-number-requires-clause-aim
 peek-number-requires-clause-aim g c = aims_own c.args.words.now.key g.B.Asks.now c.args.word change.Load c.requires.aim
