@@ -9,7 +9,7 @@ use Rattle.kc_model.specs.declared.footprint.Footprint.{Footprint}
 use Rattle.kc_model.specs.declared.footprint.Put.{Put}
 use Rattle.kc_model.specs.declared.footprint.Seen.{Seen}
 use Rattle.kc_model.specs.declared.footprint.TheConstants.{LAST_VERSION}
-use Rattle.kc_xt.specs.Lines.{locations, seens, puts, put_line, rolled_back, VersionsFit, CanPut, worn_of}
+use Rattle.kc_xt.specs.Lines.{locations, seens, puts, put_line, rolled_back, VersionsFit, CanPut, worn_of, worn_put}
 use Rattle.kc_model.specs.declared.footprint.Line.{Line}
 
 -- the locations of the reads are those of the lines
@@ -93,6 +93,15 @@ reads_made ls f rising fit er ep = record {
   where
     no_put : (p : Put) → Contains [] p → ⊥
     no_put p (k, lt, e) = omega arith
+
+-- the first put at the last version is that of the first such line
+pub worn_among_puts : (ls : List Line) → worn_put (puts ls) ≡ worn_of ls
+worn_among_puts [] = refl
+worn_among_puts (b ∷ bs) = go b.put (worn_among_puts bs)
+  where
+    go : (o : Option ℕ) → worn_put (puts bs) ≡ worn_of bs → worn_put (put_line b.seen o (puts bs)) ≡ cond (is_some o && b.seen.version == LAST_VERSION) (Some b.seen.loc) (worn_of bs)
+    go None ih = ih
+    go (Some v) ih = ap (cond (b.seen.version == LAST_VERSION) (Some b.seen.loc)) ih
 
 -- where no line is worn, all puts leave a version
 pub none_worn : (ls : List Line) → VersionsFit ls → worn_of ls ≡ None → CanPut ls

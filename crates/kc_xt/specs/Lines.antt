@@ -131,6 +131,11 @@ abbrev pub worn_of : List Line → Option Loc
 worn_of [] = None
 worn_of (b ∷ bs) = cond (is_some b.put && b.seen.version == LAST_VERSION) (Some b.seen.loc) (worn_of bs)
 
+-- the location of the first put at the last version
+abbrev pub worn_put : List Put → Option Loc
+worn_put [] = None
+worn_put (p ∷ ps) = cond (p.version == LAST_VERSION) (Some p.loc) (worn_put ps)
+
 -- no line was seen past the last version
 abbrev pub VersionsFit : List Line → Type 0
 VersionsFit [] = Unit {0}

@@ -108,11 +108,8 @@ fn settle_done<P: Peek>(xt: &mut Xt<P>, footprint: &mut Footprint) -> Went
     ensures lines { (a : Reply) → IsOfLines (tried_of result a) xt.new.lines footprint.new }
     ensures log { xt.new ≡ record xt.old { lines = xt.new.lines } }
 {
-    match xt.worn() {
-        None => {
-            xt.fill(footprint);
-            Went::Done
-        }
+    match xt.fill(footprint) {
+        None => Went::Done,
         Some(loc) => {
             xt.fill_bare(footprint);
             Went::Worn(loc)

@@ -11,7 +11,7 @@ ghost use Rattle.kc_xt.specs.Log.{empty_log};
 ghost use Rattle.kc_xt.specs.Steps.{Does};
 ghost use Rattle.kc_xt.specs.Program.{read, writes, exchanges, swaps, compares_and_sets, fetches_and_adds, wrapped};
 
-use crate::line::{copy_of, fill_puts, fill_reads, take_back, worn_of};
+use crate::line::{copy_of, fill_puts, fill_reads, take_back, worn_among};
 use crate::peek::Peek;
 use crate::place::find;
 use crate::room::Room;
@@ -336,15 +336,19 @@ impl<'a, P: Peek> Xt<'a, P> {
         take_back(self.room, to.lines.as_slice());
     }
 
-    /// Makes the footprint one of what all lines saw, and of the new values.
+    /// Makes the footprint one of what all lines saw, and of the new values. It answers the lowest location with a new value that was
+    /// seen at the last version.
     #[inline(always)]
-    pub fn fill(&self, footprint: &mut Footprint)
+    pub fn fill(&self, footprint: &mut Footprint) -> Option<Loc>
+        ensures worn { result ≡ worn_of self.now.lines }
+        ensures none { result ≡ None → CanPut self.now.lines }
         ensures reads { footprint.new.reads.items ≡ seens self.now.lines }
         ensures puts { footprint.new.puts.items ≡ puts self.now.lines }
         ensures made { CanPut self.now.lines → IsWellMade footprint.new }
     {
         fill_reads(&mut footprint.reads, self.room.as_slice());
         fill_puts(&mut footprint.puts, self.room.as_slice());
+        worn_among(footprint.puts.as_slice())
     }
 
     /// Takes all new values back, and makes the footprint one of what all lines saw.
@@ -356,14 +360,6 @@ impl<'a, P: Peek> Xt<'a, P> {
         take_back(self.room, &[]);
         fill_reads(&mut footprint.reads, self.room.as_slice());
         footprint.puts.clear();
-    }
-
-    /// The lowest location with a new value that was seen at the last version.
-    pub fn worn(&self) -> Option<Loc>
-        ensures is { result ≡ worn_of self.now.lines }
-        ensures none { result ≡ None → CanPut self.now.lines }
-    {
-        worn_of(self.room.as_slice())
     }
 
     /// Its peek, and the footprint of what all lines saw and of the new values.
