@@ -62,9 +62,18 @@ fn a_number_is_set_where_both_words_are_as_expected(rt: HostRuntime) -> Result<(
     let mut xt = Xt::new(PlainPeek::new(&store), &mut room, MOST as u32);
     let wide = Wide::layout(Loc(0));
     let op = |act: WideAct| WideOp { wide, act };
-    let no = Ok(Reply::Bool(false));
-    tells(&rt, &mut xt, &op(WideAct::Cas(5, 1)), no);
-    tells(&rt, &mut xt, &op(WideAct::Cas(30_064_771_072, 1)), no);
+    tells(
+        &rt,
+        &mut xt,
+        &op(WideAct::Cas(5, 1)),
+        Ok(Reply::Bool(false)),
+    );
+    tells(
+        &rt,
+        &mut xt,
+        &op(WideAct::Cas(30_064_771_072, 1)),
+        Ok(Reply::Bool(false)),
+    );
     reads(&rt, xt.get(Loc(0)), Ok(5));
     reads(&rt, xt.get(Loc(1)), Ok(7));
     tells(
