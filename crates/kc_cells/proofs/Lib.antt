@@ -3,3 +3,5 @@ pub mod Sums
 pub mod MvarLaw
 pub mod PromiseLaw
 pub mod AccLaw
+pub mod TwoWords
+pub mod WideLaw

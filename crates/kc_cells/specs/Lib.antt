@@ -2,3 +2,4 @@ pub mod OnePlace
 pub mod Mvar
 pub mod Promise
 pub mod Accumulator
+pub mod Wide

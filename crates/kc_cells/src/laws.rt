@@ -8,10 +8,13 @@ ghost use Rattle.kc_cells.specs.declared.promise.Promise.{Promise};
 ghost use Rattle.kc_cells.specs.declared.promise.PromiseOp.{PromiseOp};
 ghost use Rattle.kc_cells.specs.declared.accumulator.Accumulator.{Accumulator};
 ghost use Rattle.kc_cells.specs.declared.accumulator.AccOp.{AccOp};
+ghost use Rattle.kc_cells.specs.declared.wide.Wide.{Wide};
+ghost use Rattle.kc_cells.specs.declared.wide.WideOp.{WideOp};
 ghost use Rattle.kc_cells.specs.OnePlace.{place_cells, place_opening};
 ghost use Rattle.kc_cells.specs.Mvar.{mvar_begin, mvar_end, mvar_cells_end, mvar_program, mvar_meaning, mvar_value, MvarStandsFor};
 ghost use Rattle.kc_cells.specs.Promise.{promise_begin, promise_end, promise_cells_end, promise_program, promise_meaning, promise_value, PromiseStandsFor};
 ghost use Rattle.kc_cells.specs.Accumulator.{acc_begin, acc_end, acc_cells_end, acc_opening, acc_program, acc_meaning, acc_value, AccStandsFor};
+ghost use Rattle.kc_cells.specs.Wide.{wide_begin, wide_end, wide_cells, wide_cells_end, wide_opening, wide_program, wide_meaning, wide_value, WideStandsFor};
 
 /// On cells that stand for a content, an operation that isn't too large means what it does to the content: the same
 /// reply or retry, and the cells then stand for the content then.
@@ -19,6 +22,7 @@ pub fn means_its_value()
     ensures mvar { (o : MvarOp) (c : Option ℕ) → MeansItsValue (MvarStandsFor o.mvar) (mvar_meaning o) c (mvar_value o.act c) }
     ensures promise { (o : PromiseOp) (c : Option ℕ) → MeansItsValue (PromiseStandsFor o.promise) (promise_meaning o) c (promise_value o.act c) }
     ensures acc { (o : AccOp) (t : ℕ) → MeansItsValue (AccStandsFor o.acc) (acc_meaning o) t (acc_value o.act t) }
+    ensures wide { (o : WideOp) (n : ℕ) → MeansItsValue (WideStandsFor o.wide) (wide_meaning o) n (wide_value o.act n) }
 {}
 
 /// An operation that isn't too large keeps the cells well formed.
@@ -26,13 +30,16 @@ pub fn keeps_well_formed()
     ensures mvar { (o : MvarOp) → KeepsWellFormed (MvarStandsFor o.mvar) (mvar_meaning o) }
     ensures promise { (o : PromiseOp) → KeepsWellFormed (PromiseStandsFor o.promise) (promise_meaning o) }
     ensures acc { (o : AccOp) → KeepsWellFormed (AccStandsFor o.acc) (acc_meaning o) }
+    ensures wide { (o : WideOp) → KeepsWellFormed (WideStandsFor o.wide) (wide_meaning o) }
 {}
 
-/// An operation touches the structure's own cells alone, whatever they hold, and its reply is one item.
+/// An operation touches the structure's own cells alone, whatever they hold, and its reply is one item, but for a number of 64
+/// bits.
 pub fn touches_its_own_cells()
     ensures mvar { (o : MvarOp) → TouchesItsOwnCells (mvar_begin o) (mvar_end o) (mvar_meaning o) × RepliesOneItem (mvar_meaning o) }
     ensures promise { (o : PromiseOp) → TouchesItsOwnCells (promise_begin o) (promise_end o) (promise_meaning o) × RepliesOneItem (promise_meaning o) }
     ensures acc { (o : AccOp) → TouchesItsOwnCells (acc_begin o) (acc_end o) (acc_meaning o) × RepliesOneItem (acc_meaning o) }
+    ensures wide { (o : WideOp) → TouchesItsOwnCells (wide_begin o) (wide_end o) (wide_meaning o) }
 {}
 
 /// Inside a longer program an operation does to the content what it does alone, and leaves all else as it was.
@@ -40,13 +47,15 @@ pub fn runs_inside_others()
     ensures mvar { (o : MvarOp) (c : Option ℕ) → RunsInsideOthers (MvarStandsFor o.mvar) (mvar_begin o) (mvar_end o) (mvar_program o.mvar o.act) c (mvar_value o.act c) }
     ensures promise { (o : PromiseOp) (c : Option ℕ) → RunsInsideOthers (PromiseStandsFor o.promise) (promise_begin o) (promise_end o) (promise_program o.promise o.act) c (promise_value o.act c) }
     ensures acc { (o : AccOp) (t : ℕ) → RunsInsideOthers (AccStandsFor o.acc) (acc_begin o) (acc_end o) (acc_program o.acc o.act) t (acc_value o.act t) }
+    ensures wide { (o : WideOp) (n : ℕ) → RunsInsideOthers (WideStandsFor o.wide) (wide_begin o) (wide_end o) (wide_program o.wide o.act) n (wide_value o.act n) }
 {}
 
-/// Cells with their opening values stand for no value, or for the total 0.
+/// Cells with their opening values stand for no value, or for the number 0.
 pub fn opens_empty()
     ensures mvar { (x : Mvar) → Opens (MvarStandsFor x) x.base.0 place_cells place_opening None }
     ensures promise { (x : Promise) → Opens (PromiseStandsFor x) x.base.0 place_cells place_opening None }
     ensures acc { (x : Accumulator) → Opens (AccStandsFor x) x.base.0 x.cells (acc_opening x) 0 }
+    ensures wide { (x : Wide) → Opens (WideStandsFor x) x.base.0 wide_cells wide_opening 0 }
 {}
 
 /// What the cells stand for depends on the structure's own cells alone, and is one content.
@@ -54,4 +63,5 @@ pub fn content_is_one()
     ensures mvar { (x : Mvar) → DependsOnItsCells (MvarStandsFor x) x.base.0 (mvar_cells_end x) × ContentIsOne (MvarStandsFor x) }
     ensures promise { (x : Promise) → DependsOnItsCells (PromiseStandsFor x) x.base.0 (promise_cells_end x) × ContentIsOne (PromiseStandsFor x) }
     ensures acc { (x : Accumulator) → DependsOnItsCells (AccStandsFor x) x.base.0 (acc_cells_end x) × ContentIsOne (AccStandsFor x) }
+    ensures wide { (x : Wide) → DependsOnItsCells (WideStandsFor x) x.base.0 (wide_cells_end x) × ContentIsOne (WideStandsFor x) }
 {}

@@ -7,11 +7,13 @@ ghost use Rattle.kc_cells.specs.Accumulator.{acc_cells_end, acc_opening, AccStan
 ghost use Rattle.kc_cells.specs.Mvar.{mvar_cells_end, MvarStandsFor};
 ghost use Rattle.kc_cells.specs.OnePlace.{place_cells, place_opening, value_held};
 ghost use Rattle.kc_cells.specs.Promise.{promise_cells_end, PromiseStandsFor};
+ghost use Rattle.kc_cells.specs.Wide.{wide_cells, wide_cells_end, wide_opening, WideStandsFor};
 
 use crate::accumulator::{Accumulator, MOST_CELLS};
 use crate::mvar::Mvar;
-use crate::one_place;
 use crate::promise::Promise;
+use crate::wide::Wide;
+use crate::{one_place, words};
 use kc_model::{Loc, MOST_LOCATIONS, PlainStore};
 
 impl Mvar {
@@ -140,5 +142,47 @@ impl Accumulator {
             sum = sum.wrapping_add(store.get(Loc(l)).unwrap());
         }
         sum
+    }
+}
+
+impl Wide {
+    /// The number at these cells.
+    pub fn layout(base: Loc) -> Wide
+        requires { base.0 + wide_cells ≤ MOST_LOCATIONS }
+        ensures { result.base ≡ base }
+    {
+        Wide { base }
+    }
+
+    /// The location of its first cell.
+    pub fn base(&self) -> Loc
+        ensures { result ≡ self.now.base }
+    {
+        self.base
+    }
+
+    /// How many cells it has.
+    pub fn cells(&self) -> u32
+        ensures { result ≡ wide_cells }
+    {
+        words::CELLS
+    }
+
+    /// What a cell holds at the opening.
+    pub fn opening(&self, index: u32) -> u32
+        requires { index < wide_cells }
+        ensures { result ≡ wide_opening index }
+    {
+        0
+    }
+
+    /// Its number in a store.
+    pub fn number(&self, store: &PlainStore) -> u64
+        requires { wide_cells_end self.now ≤ length store.now }
+        ensures { WideStandsFor self.now (values (store_of store.now)) result }
+    {
+        let low = store.get(self.base).unwrap();
+        let high = store.get(Loc(self.base.0 + 1)).unwrap();
+        words::number_of(low, high)
     }
 }

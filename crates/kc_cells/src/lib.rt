@@ -1,4 +1,4 @@
-//! A one-place variable, a promise and an accumulator on locations.
+//! A one-place variable, a promise, an accumulator and a number of 64 bits on locations.
 #![tactic(auto)]
 
 mod accumulator;
@@ -9,6 +9,8 @@ mod mvar;
 mod one_place;
 mod operation;
 mod promise;
+mod wide;
+mod words;
 
 pub use accumulator::{AccAct, AccOp, Accumulator, MOST_CELLS};
 pub use laws::{
@@ -17,3 +19,5 @@ pub use laws::{
 };
 pub use mvar::{Mvar, MvarAct, MvarOp};
 pub use promise::{Promise, PromiseAct, PromiseOp};
+pub use wide::{Wide, WideAct, WideOp};
+pub use words::number_in;

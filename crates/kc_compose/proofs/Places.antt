@@ -1,8 +1,9 @@
--- An operation on a one-place variable, a promise or an accumulator touches something before it replies.
+-- An operation on a one-place variable, a promise, an accumulator or a number of 64 bits touches something before it replies.
 use Rattle.std.proofs.Common.{ℕ, zero, suc, ◌<◌, arith}
 use Rattle.kc_cells.specs.Accumulator.{acc_meaning, acc_program, sums}
 use Rattle.kc_cells.specs.Mvar.{mvar_meaning, mvar_program}
 use Rattle.kc_cells.specs.Promise.{promise_meaning, promise_program}
+use Rattle.kc_cells.specs.Wide.{wide_meaning, wide_program}
 use Rattle.kc_cells.specs.declared.accumulator.AccAct.{AccAct}
 use Rattle.kc_cells.specs.declared.accumulator.AccAct.TheVariants as acc
 use Rattle.kc_cells.specs.declared.accumulator.AccOp.{AccOp}
@@ -15,6 +16,10 @@ use Rattle.kc_cells.specs.declared.promise.Promise.{Promise}
 use Rattle.kc_cells.specs.declared.promise.PromiseAct.{PromiseAct}
 use Rattle.kc_cells.specs.declared.promise.PromiseAct.TheVariants as promise
 use Rattle.kc_cells.specs.declared.promise.PromiseOp.{PromiseOp}
+use Rattle.kc_cells.specs.declared.wide.Wide.{Wide}
+use Rattle.kc_cells.specs.declared.wide.WideAct.{WideAct}
+use Rattle.kc_cells.specs.declared.wide.WideAct.TheVariants as wide
+use Rattle.kc_cells.specs.declared.wide.WideOp.{WideOp}
 use Rattle.kc_compose.proofs.Touches.{BeginsWithATouch, touches_first}
 use Rattle.kc_compose.specs.Meaning.{TouchesWhereItReplies}
 use Rattle.kc_xt.specs.Program.{replies}
@@ -38,3 +43,9 @@ sums_begins l (suc n) some = tt
 pub acc_touches : (x : Accumulator) (a : AccAct) → (let o : AccOp = record { acc = x; act = a } in TouchesWhereItReplies (acc_meaning o))
 acc_touches x (acc.Bump c n) = touches_first (acc_program x (acc.Bump c n) replies) tt
 acc_touches x acc.Total = touches_first (acc_program x acc.Total replies) (sums_begins x.base.0 x.cells x.some)
+
+pub wide_touches : (x : Wide) (a : WideAct) → (let o : WideOp = record { wide = x; act = a } in TouchesWhereItReplies (wide_meaning o))
+wide_touches x wide.Get = touches_first (wide_program x wide.Get replies) tt
+wide_touches x (wide.Put n) = touches_first (wide_program x (wide.Put n) replies) tt
+wide_touches x (wide.Add n) = touches_first (wide_program x (wide.Add n) replies) tt
+wide_touches x (wide.Cas before after) = touches_first (wide_program x (wide.Cas before after) replies) tt

@@ -2,7 +2,7 @@
 
 use crate::touching::Touching;
 use kc_cache::CacheOp;
-use kc_cells::{AccOp, MvarOp, PromiseOp};
+use kc_cells::{AccOp, MvarOp, PromiseOp, WideOp};
 use kc_hash::HashOp;
 use kc_loc::LocOp;
 use kc_queue::QueueOp;
@@ -21,6 +21,10 @@ impl Touching for PromiseOp {
 }
 
 impl Touching for AccOp {
+    fn touches_where_it_replies(&self) {}
+}
+
+impl Touching for WideOp {
     fn touches_where_it_replies(&self) {}
 }
 

@@ -1,14 +1,15 @@
-//! What has one place, and accumulators, lie in cells.
+//! What has one place, accumulators, and numbers of 64 bits lie in cells.
 
 ghost use Rattle.std.specs.Prelude.{◌≡◌, ◌≤◌, None, ⊤};
 ghost use Rattle.kc_cells.specs.Accumulator.{AccStandsFor, acc_opening};
 ghost use Rattle.kc_cells.specs.Mvar.{MvarStandsFor};
 ghost use Rattle.kc_cells.specs.OnePlace.{place_cells, place_opening};
 ghost use Rattle.kc_cells.specs.Promise.{PromiseStandsFor};
+ghost use Rattle.kc_cells.specs.Wide.{WideStandsFor, wide_cells, wide_opening};
 ghost use Rattle.kc_cells.specs.declared.accumulator.TheConstants.{MOST_CELLS};
 
 use crate::lies::{Lies, Movable};
-use kc_cells::{Accumulator, Mvar, Promise};
+use kc_cells::{Accumulator, Mvar, Promise, Wide};
 use kc_model::Loc;
 
 impl Lies for Mvar {
@@ -116,5 +117,41 @@ impl Movable for Accumulator {
 
     fn moved(&self, first: Loc) -> Accumulator {
         Accumulator::layout(first, self.cells())
+    }
+}
+
+impl Lies for Wide {
+    ghost first = { λ x. x.base.0 };
+
+    ghost cells = { λ x. wide_cells };
+
+    ghost opens_with = { λ x. wide_opening };
+
+    ghost is_open = { λ x m. WideStandsFor x m 0 };
+
+    fn begin(&self) -> Loc {
+        self.base()
+    }
+
+    fn count(&self) -> u32 {
+        self.cells()
+    }
+
+    fn opens(&self, index: u32) -> u32 {
+        self.opening(index)
+    }
+
+    fn stands_open(&self) {
+        kc_cells::opens_empty();
+    }
+}
+
+impl Movable for Wide {
+    ghost is_fit = { λ x. ⊤ };
+
+    ghost is_like = { λ x y. ⊤ };
+
+    fn moved(&self, first: Loc) -> Wide {
+        Wide::layout(first)
     }
 }

@@ -7,6 +7,7 @@ ghost use Rattle.kc_cells.specs.Accumulator.{AccStandsFor, acc_opening};
 ghost use Rattle.kc_cells.specs.Mvar.{MvarStandsFor};
 ghost use Rattle.kc_cells.specs.OnePlace.{place_cells, place_opening};
 ghost use Rattle.kc_cells.specs.Promise.{PromiseStandsFor};
+ghost use Rattle.kc_cells.specs.Wide.{WideStandsFor, wide_cells, wide_opening};
 ghost use Rattle.kc_cells.specs.declared.accumulator.TheConstants.{MOST_CELLS};
 ghost use Rattle.kc_dllist.specs.Content.{ListStandsFor, list_opening_content};
 ghost use Rattle.kc_dllist.specs.Meaning.{dllist_cells, dllist_opening};
@@ -27,7 +28,7 @@ use crate::array::Array;
 use crate::lies::{Lies, Movable};
 use crate::locations::Locations;
 use kc_cache::Cache;
-use kc_cells::{Accumulator, MOST_CELLS, Mvar, Promise};
+use kc_cells::{Accumulator, MOST_CELLS, Mvar, Promise, Wide};
 use kc_dllist::Dllist;
 use kc_grow::Grow;
 use kc_hash::Hash;
@@ -239,6 +240,23 @@ impl Layout {
         ensures opens { IfOk result (λ x. HoldsAtOpening (λ m. AccStandsFor x m 0) self.new) }
     {
         let structure = Accumulator::layout(self.end(), cells);
+        self.add(&structure)?;
+        Ok(structure)
+    }
+
+    /// A number of 64 bits behind all that lies there: it is 0.
+    ///
+    /// # Errors
+    ///
+    /// - AllocError: there is no memory for it; some of its cells may have been laid
+    pub fn wide(&mut self) -> Result<Wide, AllocError>
+        requires room { length self.old + wide_cells ≤ MOST_LOCATIONS }
+        ensures lays { IfOk result (λ x. LaysBehind x.base.0 wide_cells wide_opening self.old self.new) }
+        ensures stays { StaysLaid self.old self.new }
+        ensures is_new { IfOk result (λ x. IsNewAmong x.base.0 wide_cells self.old) }
+        ensures opens { IfOk result (λ x. HoldsAtOpening (λ m. WideStandsFor x m 0) self.new) }
+    {
+        let structure = Wide::layout(self.end());
         self.add(&structure)?;
         Ok(structure)
     }

@@ -21,3 +21,5 @@ mod loc;
 mod queue;
 #[cfg(test)]
 mod stack;
+#[cfg(test)]
+mod wide;

@@ -74,7 +74,7 @@ not_below x = grind (arith, nat_tests)
 
 -- ---- the leases of a text, by one operation
 
-abbrev ByOne : ℕ → ℕ → Type 0
+abbrev pub ByOne : ℕ → ℕ → Type 0
 ByOne x y = (y ≡ x) ⊎ ((y ≡ x + 1) ⊎ (x ≡ y + 1))
 
 module _ (t : Texts) where
@@ -95,7 +95,7 @@ module _ (t : Texts) where
             rw here (subst (λ k. ByOne (m (leases_at t k)) v) q by)
         by_test false e = let ne : i ≢ j = eqb-false _ _ e in inl (grind (arith, nat_tests, ne, h, text))
 
-    act_turns : (a : TextAct) → IsFitAct t a → Turns (plain (text_program t a replies) m)
+    pub act_turns : (a : TextAct) → IsFitAct t a → Turns (plain (text_program t a replies) m)
     act_turns (act.Name p i) fit =
         plain_if Turns m (m (names_at t i) == BURIED) _ _ (λ _. inl refl) (λ _.
         plain_if Turns m (m (place_at t p) == i) _ _ (λ _. inl refl) (λ _.
@@ -143,7 +143,7 @@ module _ (t : Texts) where
       by_test false h zero lt e ih = absurd (eqb-false _ _ h e)
       by_test false h (suc i) lt e ih = let r = ih (i, omega arith, e) in omega (arith, r)
 
-  no_turn : (test : ℕ → ℕ → Bool) (r : Option Seen) (o : Option Put) → option_map (λ (p : Put). p.after) o ≡ None → turns test r o ≡ false
+  pub no_turn : (test : ℕ → ℕ → Bool) (r : Option Seen) (o : Option Put) → option_map (λ (p : Put). p.after) o ≡ None → turns test r o ≡ false
   no_turn test (Some r) None e = refl
   no_turn test None None e = refl
   no_turn test r (Some p) e = absurd (cc)

@@ -1,3 +1,4 @@
+pub mod Handed
 pub mod Holding
 pub mod Owning
 pub mod Turning

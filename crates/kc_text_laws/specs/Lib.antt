@@ -1,2 +1,3 @@
 pub mod Holding
 pub mod Owning
+pub mod Handed

@@ -4,6 +4,6 @@
 mod laws;
 
 pub use laws::{
-    entries_turn_leases, texts_stand_in_histories, what_callers_keep_the_history_keeps,
-    what_is_buried_is_held_by_none,
+    entries_turn_leases, leases_may_be_handed_on, texts_stand_in_histories,
+    what_callers_keep_the_history_keeps, what_is_buried_is_held_by_none,
 };

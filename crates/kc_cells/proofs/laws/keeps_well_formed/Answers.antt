@@ -5,6 +5,8 @@ use Rattle.kc_cells.specs.Accumulator.{acc_meaning, acc_value}
 use Rattle.kc_cells.specs.Mvar.{mvar_meaning, mvar_value}
 use Rattle.kc_cells.specs.Promise.{promise_meaning, promise_value}
 use Rattle.kc_xt.proofs.Structures.{means_keeps}
+use Rattle.kc_cells.proofs.WideLaw.{wide_means}
+use Rattle.kc_cells.specs.Wide.{wide_meaning, wide_value}
 use Rattle.kc_cells.proofs.laws.keeps_well_formed.Goals as goal
 
 pub returns-clause-mvar : goal.returns-clause-mvar
@@ -15,3 +17,6 @@ returns-clause-promise c = λ o. means_keeps (promise_meaning o) (promise_value 
 
 pub returns-clause-acc : goal.returns-clause-acc
 returns-clause-acc c = λ o. means_keeps (acc_meaning o) (acc_value o.act) (acc_means o)
+
+pub returns-clause-wide : goal.returns-clause-wide
+returns-clause-wide c = λ o. means_keeps (wide_meaning o) (wide_value o.act) (wide_means o)

@@ -1,6 +1,7 @@
 use Rattle.kc_cells.proofs.AccLaw.{acc_means}
 use Rattle.kc_cells.proofs.MvarLaw.{mvar_means}
 use Rattle.kc_cells.proofs.PromiseLaw.{promise_means}
+use Rattle.kc_cells.proofs.WideLaw.{wide_means}
 use Rattle.kc_cells.proofs.laws.means_its_value.Goals as goal
 
 pub returns-clause-mvar : goal.returns-clause-mvar
@@ -11,3 +12,6 @@ returns-clause-promise c = promise_means
 
 pub returns-clause-acc : goal.returns-clause-acc
 returns-clause-acc c = acc_means
+
+pub returns-clause-wide : goal.returns-clause-wide
+returns-clause-wide c = wide_means

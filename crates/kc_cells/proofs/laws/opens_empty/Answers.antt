@@ -1,5 +1,6 @@
 use Rattle.kc_cells.proofs.AccLaw.{acc_opens}
 use Rattle.kc_cells.proofs.OnePlaces.{place_opens}
+use Rattle.kc_cells.proofs.WideLaw.{wide_opens}
 use Rattle.kc_cells.proofs.laws.opens_empty.Goals as goal
 
 pub returns-clause-mvar : goal.returns-clause-mvar
@@ -10,3 +11,6 @@ returns-clause-promise c = λ x. place_opens x.base.0
 
 pub returns-clause-acc : goal.returns-clause-acc
 returns-clause-acc c = acc_opens
+
+pub returns-clause-wide : goal.returns-clause-wide
+returns-clause-wide c = wide_opens

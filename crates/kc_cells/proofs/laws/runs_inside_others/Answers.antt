@@ -2,6 +2,7 @@ use Rattle.kc_cells.proofs.AccLaw.{acc_inside}
 use Rattle.kc_cells.proofs.OnePlaces.{place_inside}
 use Rattle.kc_cells.specs.Mvar.{mvar_place_act}
 use Rattle.kc_cells.specs.Promise.{promise_place_act}
+use Rattle.kc_cells.proofs.WideLaw.{wide_inside}
 use Rattle.kc_cells.proofs.laws.runs_inside_others.Goals as goal
 
 pub returns-clause-mvar : goal.returns-clause-mvar
@@ -12,3 +13,6 @@ returns-clause-promise c = λ o. place_inside o.promise.base.0 (promise_place_ac
 
 pub returns-clause-acc : goal.returns-clause-acc
 returns-clause-acc c = acc_inside
+
+pub returns-clause-wide : goal.returns-clause-wide
+returns-clause-wide c = wide_inside

@@ -6,6 +6,7 @@ use Rattle.kc_cells.specs.Mvar.{mvar_program}
 use Rattle.kc_cells.specs.Promise.{promise_program}
 use Rattle.kc_xt.proofs.Stay.{stays_touches, stays_one}
 use Rattle.kc_xt.specs.Program.{replies}
+use Rattle.kc_cells.proofs.WideLaw.{wide_touches_own}
 use Rattle.kc_cells.proofs.laws.touches_its_own_cells.Goals as goal
 
 pub returns-clause-mvar : goal.returns-clause-mvar
@@ -16,3 +17,6 @@ returns-clause-promise c = λ o. (stays_touches _ _ (promise_program o.promise o
 
 pub returns-clause-acc : goal.returns-clause-acc
 returns-clause-acc c = λ o. (stays_touches _ _ (acc_program o.acc o.act replies) (acc_stays o), stays_one _ _ (acc_program o.acc o.act replies) (acc_stays o))
+
+pub returns-clause-wide : goal.returns-clause-wide
+returns-clause-wide c = wide_touches_own
