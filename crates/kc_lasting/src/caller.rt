@@ -143,11 +143,10 @@ impl LastingCaller {
         }
     }
 
-    /// StandsAtFront a new era, where the last one is the handle's, and goes over to the last one. Others' commits wait meanwhile, so a quiet
+    /// Begins a new era, where the last one is the handle's, and goes over to the last one. Others' commits wait meanwhile, so a quiet
     /// moment is best. False: there was no memory.
     pub fn renew<R: Wait>(&mut self, rt: &R) -> bool
         ensures renews { Renews result (standing_of self.old) (standing_of self.new) }
-        ensures roll { (arc_value self.new.shared).roll ≡ (arc_value self.old.shared).roll }
         ensures moves { Moves (standing_of self.old) (standing_of self.new) }
         ensures size { self.new.client.locations ≡ self.old.client.locations }
     {
@@ -166,7 +165,7 @@ impl LastingCaller {
     /// Another handle comes back, and its era ends: all that it had committed there stands in the history with which it ended, of which
     /// this handle knows now. False: there was no memory.
     pub fn take_in<R: Wait>(&mut self, rt: &R, other: LastingCaller) -> bool
-        requires { (arc_value other.shared).roll ≡ (arc_value self.old.shared).roll }
+        requires { (standing_of other).roll ≡ (standing_of self.old).roll }
         ensures ends { result ≡ true → EndsIn (standing_of self.new).lines (standing_of other) }
         ensures moves { Moves (standing_of self.old) (standing_of self.new) }
         ensures kept { (self.new.shared ≡ self.old.shared) × (self.new.client ≡ self.old.client) }
