@@ -15,6 +15,7 @@ mod crossing;
 mod cutting;
 mod era;
 mod eras;
+mod finishing;
 mod handle;
 mod laws;
 mod line;

@@ -1,32 +1,40 @@
 -- All eras as one history, from the first opening.
-use Rattle.std.proofs.Common.{◌≡◌, ◌≤◌, ◌⊎◌, inl, inr, ℕ, ◌+◌, ◌-◌, List, [], ◌∷◌, ◌++◌, Option, None, Some, length, map, refl, sym, ap, ◌∙◌, subst, arith}
+use Rattle.std.proofs.Common.{◌≡◌, ◌≤◌, ◌⊎◌, inl, inr, ℕ, ◌+◌, ◌-◌, ◌*◌, List, [], ◌∷◌, ◌++◌, Some, length, map, refl, sym, ap, ◌∙◌, subst, arith}
 use Rattle.std.proofs.Math.Logic.{∥∥₁_map}
 use Rattle.std.specs.Prelude.{Contains}
+use Rattle.kc_lasting.proofs.Sides.{within_contains}
 use Rattle.kc_lasting.specs.Cuts.{left_by}
-use Rattle.kc_lasting.specs.Eras.{AreEras, first_line, store_at}
+use Rattle.kc_lasting.specs.Eras.{AreEras, IsEnded, first_line, store_at}
 use Rattle.kc_lasting.specs.Told.{EndsIn, HandleView}
 use Rattle.kc_lasting.specs.declared.line.Line.{Line}
+use Rattle.kc_lasting_laws.proofs.Counting.{at_most, made_at_most}
 use Rattle.kc_lasting_laws.proofs.Flattening.{cell_same, flat_agrees, flat_legal, flat_within}
 use Rattle.kc_lasting_laws.proofs.Raising.{legal_join, legal_raised}
+use Rattle.kc_lasting_laws.specs.Counts.{FewEach}
 use Rattle.kc_lasting_laws.specs.Flat.{flat_history, no_versions, versions_before}
 use Rattle.kc_lasting_laws.specs.Raised.{AgreesRaised, AllLieBelow, entry_raised, footprint_raised, read_raised}
 use Rattle.kc_model.proofs.Stores.{Contains-first, Contains-later}
-use Rattle.kc_model.specs.Footprint.{put_at}
 use Rattle.kc_model.specs.Legal.{IsLegal}
-use Rattle.kc_model.specs.Store.{Finds, Store, after, cell_after}
+use Rattle.kc_model.specs.Store.{Finds, Store}
 use Rattle.kc_model.specs.declared.footprint.Entry.{Entry}
 use Rattle.kc_model.specs.declared.footprint.Footprint.{Footprint}
-use Rattle.kc_model.specs.declared.footprint.Put.{Put}
 use Rattle.kc_model.specs.declared.footprint.Seen.{Seen}
 use Rattle.kc_model.specs.declared.plain_store.Cell.{Cell}
 use Rattle.kc_model.specs.declared.reply.Answer.{Answer}
 use Rattle.kc_roll.specs.Fronts.{StandsAtFront}
 use Rattle.kc_store.proofs.Among.{first_or_later, nothing_in}
-use Rattle.kc_store.specs.Knows.{IsWithin}
+use Rattle.kc_store.specs.Knows.{IsWithin, here, none}
 use Rattle.kc_store.specs.Views.{StoreView, store_opening}
-use Rattle.kc_store.specs.kc_machine_traces.Histories.{made}
 use Rattle.kc_xt.specs.Commit.{Answers, answer_of, run_on}
 use Rattle.kc_xt.specs.Meaning.{Meaning}
+
+raised_too : {A B : Type 0} (f : A → B) (xs : List A) (x : A) → Contains xs x → Contains (map f xs) (f x)
+raised_too f [] x c = nothing_in x c
+raised_too {A} {B} f (y ∷ xs) x c = go (first_or_later y xs x c) (raised_too f xs x)
+  where
+    go : (y ≡ x) ⊎ Contains xs x → (Contains xs x → Contains (map f xs) (f x)) → Contains (map f (y ∷ xs)) (f x)
+    go (inl e) ih = subst (λ (z : A). Contains (map f (y ∷ xs)) (f z)) e (Contains-first (f y) (map f xs))
+    go (inr c) ih = Contains-later (f y) (map f xs) (f x) (ih c)
 
 agrees_first : (n : ℕ) (s : Store) → AgreesRaised n no_versions s s
 agrees_first n s l lt = cell_same (s l) _ _ (omega arith) refl
@@ -46,22 +54,24 @@ goes_on_whole z y lines k es front eras long at legal lies =
     legal_join (store_opening z) (flat_history lines) (map (entry_raised (versions_before lines k)) es) (legal_whole z lines front eras)
     (legal_raised y.locations (versions_before lines k) (left_by z (flat_history lines)) (store_opening y) (left_by y es) es legal lies (makes_whole z y lines k front eras long at))
 
-pub stands_whole : (lines : List Line) (h : HandleView) → EndsIn lines h → ∥ IsWithin (map (entry_raised (versions_before lines h.era)) h.caller.own) (flat_history lines) ∥₁
-stands_whole [] h ends = absurd (let e = ends.ended.ended in cc)
-stands_whole (l ∷ ls) h ends = ∥∥₁_map ends.all (λ w. flat_within no_versions ls h.era ends.ended.note h.caller.own ends.ended.ended (subst (λ (es : List Entry). IsWithin h.caller.own es) (sym ends.ended.known) w))
+pub stands_whole : (lines : List Line) (k : ℕ) (history own : List Entry) → IsEnded lines k history → IsWithin own history → IsWithin (map (entry_raised (versions_before lines k)) own) (flat_history lines)
+stands_whole [] k history own e w = absurd (let none = e.ended in cc)
+stands_whole (l ∷ ls) k history own e w = flat_within no_versions ls k e.note own e.ended (subst (λ (es : List Entry). IsWithin own es) (sym e.known) w)
+
+pub handle_whole : (lines : List Line) (h : HandleView) → EndsIn lines h → ∥ IsWithin (map (entry_raised (versions_before lines h.era)) h.caller.own) (flat_history lines) ∥₁
+handle_whole lines h e = ∥∥₁_map e.all (stands_whole lines h.era e.history h.caller.own e.ended)
+
+all_within : (es : List Entry) → IsWithin es es
+all_within [] = none
+all_within (x ∷ es) = here (all_within es)
+
+pub entry_whole : (lines : List Line) (k : ℕ) (history : List Entry) (x : Entry) → IsEnded lines k history → Contains history x → Contains (flat_history lines) (entry_raised (versions_before lines k) x)
+entry_whole lines k history x e c = within_contains (map (entry_raised (versions_before lines k)) history) (flat_history lines) (entry_raised (versions_before lines k) x) (stands_whole lines k history history e (all_within history)) (raised_too (entry_raised (versions_before lines k)) history x c)
 
 -- ---- what was answered
 
 lowered : (ℕ → ℕ) → Store → Store
 lowered b s l = record { version = (s l).version - b l; value = (s l).value }
-
-raised_too : (f : Seen → Seen) (xs : List Seen) (x : Seen) → Contains xs x → Contains (map f xs) (f x)
-raised_too f [] x c = nothing_in x c
-raised_too f (y ∷ xs) x c = go (first_or_later y xs x c) (raised_too f xs x)
-  where
-    go : (y ≡ x) ⊎ Contains xs x → (Contains xs x → Contains (map f xs) (f x)) → Contains (map f (y ∷ xs)) (f x)
-    go (inl e) ih = subst (λ (z : Seen). Contains (map f (y ∷ xs)) (f z)) e (Contains-first (f y) (map f xs))
-    go (inr c) ih = Contains-later (f y) (map f xs) (f x) (ih c)
 
 finds_lowered : (b : ℕ → ℕ) (f : Footprint) (s : Store) → Finds (footprint_raised b f) s → Finds f (lowered b s)
 finds_lowered b f s finds r reads =
@@ -74,13 +84,8 @@ answers_raised b m a f s answers finds = answers.run (lowered b s) (finds_lowere
 
 -- ---- how many versions
 
-one_more : (o : Option Put) (c : Cell) → (cell_after o c).version ≤ c.version + 1
-one_more None c = omega arith
-one_more (Some p) c = omega arith
-
-pub made_at_most : (es : List Entry) (s : Store) (l : ℕ) → (made s es l).version ≤ (s l).version + length es
-made_at_most [] s l = omega arith
-made_at_most (x ∷ es) s l =
-    let a = one_more (put_at x.footprint.puts.items l) (s l) in
-    let b = made_at_most es (after x.footprint s) l in
+pub few_versions : (z : StoreView) (es : List Entry) (n m l : ℕ) → FewEach n m es → (left_by z es l).version ≤ (store_opening z l).version + n * m
+few_versions z es n m l f =
+    let a = made_at_most es (store_opening z) l in
+    let b = at_most n m es f.callers f.few in
     omega (arith, a, b)

@@ -1,10 +1,11 @@
 //! What holds of all eras. The laws do nothing: the contract is the law.
 
-ghost use Rattle.std.specs.Prelude.{◌≡◌, ◌≤◌, ℕ, ◌+◌, ◌++◌, Some, List, [], ◌∷◌, length, map};
+ghost use Rattle.std.specs.Prelude.{◌≡◌, ◌≤◌, ℕ, ◌+◌, ◌*◌, ◌++◌, Some, List, [], ◌∷◌, Contains, length, map};
 ghost use Rattle.kc_lasting.specs.Cuts.{left_by};
-ghost use Rattle.kc_lasting.specs.Eras.{AreEras, first_line, store_at};
+ghost use Rattle.kc_lasting.specs.Eras.{AreEras, IsEnded, first_line, store_at};
 ghost use Rattle.kc_lasting.specs.Told.{EndsIn, HandleView, standing_of};
 ghost use Rattle.kc_lasting.specs.declared.line.Line.{Line};
+ghost use Rattle.kc_lasting_laws.specs.Counts.{FewEach};
 ghost use Rattle.kc_lasting_laws.specs.Flat.{flat_history, versions_before};
 ghost use Rattle.kc_lasting_laws.specs.Raised.{AgreesRaised, AllLieBelow, entry_raised, footprint_raised};
 ghost use Rattle.kc_model.specs.Legal.{IsLegal};
@@ -22,12 +23,19 @@ use kc_lasting::LastingCaller;
 
 /// The histories of the eras that have ended, one behind another, each with the versions that those before had made, are one list
 /// that is legal from the first store's opening. It makes what the last store opened with, versions added up, so that any history
-/// of the last era goes on from there. What a handle had committed in an era that has ended stands in it, in order.
+/// of the last era goes on from there.
 pub fn the_eras_are_one_history()
     ensures legal { (z : StoreView) (lines : List Line) → StandsAtFront (first_line z ∷ []) lines → AreEras lines → IsLegal (store_opening z) (flat_history lines) (left_by z (flat_history lines)) }
     ensures makes { (z y : StoreView) (lines : List Line) (k : ℕ) → StandsAtFront (first_line z ∷ []) lines → AreEras lines → length lines ≡ k + 1 → store_at lines k ≡ Some y → AgreesRaised y.locations (versions_before lines k) (left_by z (flat_history lines)) (store_opening y) }
     ensures goes_on { (z y : StoreView) (lines : List Line) (k : ℕ) (es : List Entry) → StandsAtFront (first_line z ∷ []) lines → AreEras lines → length lines ≡ k + 1 → store_at lines k ≡ Some y → IsLegal (store_opening y) es (left_by y es) → AllLieBelow y.locations es → IsLegal (store_opening z) (flat_history lines ++ map (entry_raised (versions_before lines k)) es) (left_by z (flat_history lines ++ map (entry_raised (versions_before lines k)) es)) }
-    ensures stands { (lines : List Line) (h : HandleView) → EndsIn lines h → ∥ IsWithin (map (entry_raised (versions_before lines h.era)) h.caller.own) (flat_history lines) ∥₁ }
+{}
+
+/// What stands in the history of an era that has ended stands in the one history, in its order: each entry, and all that a handle had
+/// committed in that era.
+pub fn entries_of_eras_stand_in_it()
+    ensures entry { (lines : List Line) (k : ℕ) (history : List Entry) (x : Entry) → IsEnded lines k history → Contains history x → Contains (flat_history lines) (entry_raised (versions_before lines k) x) }
+    ensures all { (lines : List Line) (k : ℕ) (history own : List Entry) → IsEnded lines k history → IsWithin own history → IsWithin (map (entry_raised (versions_before lines k)) own) (flat_history lines) }
+    ensures handle { (lines : List Line) (h : HandleView) → EndsIn lines h → ∥ IsWithin (map (entry_raised (versions_before lines h.era)) h.caller.own) (flat_history lines) ∥₁ }
 {}
 
 /// What a handle has seen of the eras is one legal history, from the opening of the store with which they began.
@@ -42,7 +50,9 @@ pub fn replies_hold_in_the_one_history()
     ensures { (b : ℕ → ℕ) (m : Meaning) (a : Answer) (f : Footprint) (s : Store) → Answers m a f → Finds (footprint_raised b f) s → answer_of (run_on m s).outcome ≡ Some a }
 {}
 
-/// A list of entries raises the version of a location at most by one for each of them.
-pub fn versions_are_no_more_than_entries()
-    ensures { (z : StoreView) (es : List Entry) (l : ℕ) → (left_by z es l).version ≤ (store_opening z l).version + length es }
+/// A list of entries raises the version of a location at most by one for each of them; and it has at most so many as its callers
+/// made. So no location comes to its last version in an era of few enough commits.
+pub fn few_commits_wear_nothing_out()
+    ensures entries { (z : StoreView) (es : List Entry) (l : ℕ) → (left_by z es l).version ≤ (store_opening z l).version + length es }
+    ensures callers { (z : StoreView) (es : List Entry) (n m l : ℕ) → FewEach n m es → (left_by z es l).version ≤ (store_opening z l).version + n * m }
 {}

@@ -4,6 +4,6 @@
 mod laws;
 
 pub use laws::{
-    replies_hold_in_the_one_history, shows_one_history, the_eras_are_one_history,
-    versions_are_no_more_than_entries,
+    entries_of_eras_stand_in_it, few_commits_wear_nothing_out, replies_hold_in_the_one_history,
+    shows_one_history, the_eras_are_one_history,
 };
