@@ -3,7 +3,7 @@
 ghost use Rattle.std.specs.Prelude.{◌≡◌, ◌≤◌, ◌<◌, Some, true};
 ghost use Rattle.std.specs.Arc.{arc_value};
 ghost use Rattle.kc_lasting.specs.Eras.{AreEras, store_at};
-ghost use Rattle.kc_lasting.specs.Told.{AttemptsSo, CommitsInSomeEra, EndsIn, Moves, ReadsSo, Renews, ViewsAtLast, ViewsOnce, WaitsTill, is_worn_verdict, standing_of};
+ghost use Rattle.kc_lasting.specs.Told.{AttemptsSo, CommitsInSomeEra, EndsIn, Moves, ReadsSo, Renews, ViewsAtLast, ViewsOnce, is_worn_verdict, standing_of};
 ghost use Rattle.kc_roll.specs.Fronts.{StandsAtFront};
 ghost use Rattle.kc_store.specs.Verdicts.{verdict_as, verdict_of};
 ghost use Rattle.kc_xt.specs.Commit.{tried_of};
@@ -194,38 +194,6 @@ impl LastingCaller {
         self.shared.roll.join(&mut self.place.page, page);
     }
 
-    /// Commits a transaction, and waits where it would be answered Later.
-    pub fn commit_waiting_into<R: Wait, T: Transact>(
-        &mut self,
-        rt: &R,
-        transaction: &T,
-        footprint: &mut Footprint,
-    ) -> Answered
-        requires fit { T.is_fit transaction.now }
-        requires within { T.end transaction.now ≤ self.old.client.locations }
-        ensures told { WaitsTill (limited (T.most transaction.now) (T.meaning transaction.now)) result (standing_of self.old) footprint.new (standing_of self.new) }
-        ensures moves { Moves (standing_of self.old) (standing_of self.new) }
-        ensures size { self.new.client.locations ≡ self.old.client.locations }
-    {
-        'tries: for _ in rt.forever() {
-            let answered = self.commit_into(rt, transaction, footprint);
-            if is_later(&answered) {
-                self.wait(rt, footprint);
-            } else {
-                return answered;
-            }
-        }
-        unreachable!()
-    }
-
-    // Hangs on what was read until something of it may have changed, or the era ends.
-    fn wait<R: Wait>(&mut self, rt: &R, footprint: &Footprint)
-        ensures moves { Moves (standing_of self.old) (standing_of self.new) }
-        ensures size { self.new.client.locations ≡ self.old.client.locations }
-    {
-        self.client.wait(rt, footprint);
-    }
-
     /// Views a transaction: see `view_into` of a store.
     pub fn view_into<R: Wait, T: Transact>(
         &mut self,
@@ -304,8 +272,4 @@ fn is_worn(fate: Fate, trial: &Trial) -> bool
         Fate::Entered { .. } => matches!(trial.went, Went::Worn(_)),
         Fate::Lost { .. } | Fate::Busy { .. } => false,
     }
-}
-
-fn is_later(answered: &Answered) -> bool {
-    matches!(answered, Answered::Later)
 }

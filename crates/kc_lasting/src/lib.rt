@@ -23,6 +23,7 @@ mod opening;
 mod renewing;
 mod settling;
 mod shared;
+mod waiting;
 
 pub use caller::Attempt;
 pub use handle::LastingCaller;
