@@ -2,10 +2,13 @@
 use Rattle.std.proofs.Common.{◌≡◌, ◌≤◌, ◌⊎◌, inl, inr, ℕ, ◌+◌, ◌-◌, ◌*◌, List, [], ◌∷◌, ◌++◌, Some, length, map, refl, sym, ap, ◌∙◌, subst, arith}
 use Rattle.std.proofs.Math.Logic.{∥∥₁_map}
 use Rattle.std.specs.Prelude.{Contains}
+use Rattle.atomic_table.specs.Seated.{TableId}
 use Rattle.kc_lasting.proofs.Sides.{within_contains}
 use Rattle.kc_lasting.specs.Cuts.{left_by}
 use Rattle.kc_lasting.specs.Eras.{AreEras, IsEnded, first_line, store_at}
-use Rattle.kc_lasting.specs.Told.{EndsIn, HandleView}
+use Rattle.kc_lasting.specs.Opening.{IsFirst}
+use Rattle.kc_lasting.specs.Told.{EndsIn, HandleView, Moves, standing_of}
+use Rattle.kc_lasting.specs.declared.handle.LastingCaller.{LastingCaller}
 use Rattle.kc_lasting.specs.declared.line.Line.{Line}
 use Rattle.kc_lasting_laws.proofs.Counting.{at_most, made_at_most}
 use Rattle.kc_lasting_laws.proofs.Flattening.{cell_same, flat_agrees, flat_legal, flat_within}
@@ -38,6 +41,9 @@ raised_too {A} {B} f (y ∷ xs) x c = go (first_or_later y xs x c) (raised_too f
 
 agrees_first : (n : ℕ) (s : Store) → AgreesRaised n no_versions s s
 agrees_first n s l lt = cell_same (s l) _ _ (omega arith) refl
+
+pub begins_whole : (roll : TableId) (z : StoreView) (h : LastingCaller) (d : HandleView) → IsFirst roll z h → Moves (standing_of h) d → StandsAtFront (first_line z ∷ []) d.lines
+begins_whole roll z h d first moves = subst (λ (ls : List Line). StandsAtFront ls d.lines) first.lines moves.lines
 
 pub legal_whole : (z : StoreView) (lines : List Line) → StandsAtFront (first_line z ∷ []) lines → AreEras lines → IsLegal (store_opening z) (flat_history lines) (left_by z (flat_history lines))
 legal_whole z lines (rest, is) eras = subst (λ (ls : List Line). IsLegal (store_opening z) (flat_history ls) (left_by z (flat_history ls))) (sym is) (flat_legal no_versions (first_line z) rest z (store_opening z) refl (subst AreEras is eras) (agrees_first z.locations (store_opening z)))

@@ -1,9 +1,12 @@
 //! What holds of all eras. The laws do nothing: the contract is the law.
 
 ghost use Rattle.std.specs.Prelude.{◌≡◌, ◌≤◌, ℕ, ◌+◌, ◌*◌, ◌++◌, Some, List, [], ◌∷◌, Contains, length, map};
+ghost use Rattle.atomic_table.specs.Seated.{TableId};
 ghost use Rattle.kc_lasting.specs.Cuts.{left_by};
 ghost use Rattle.kc_lasting.specs.Eras.{AreEras, IsEnded, first_line, store_at};
-ghost use Rattle.kc_lasting.specs.Told.{EndsIn, HandleView, standing_of};
+ghost use Rattle.kc_lasting.specs.Opening.{IsFirst};
+ghost use Rattle.kc_lasting.specs.Told.{EndsIn, HandleView, Moves, standing_of};
+ghost use Rattle.kc_lasting.specs.declared.handle.LastingCaller.{LastingCaller as LastingHandle};
 ghost use Rattle.kc_lasting.specs.declared.line.Line.{Line};
 ghost use Rattle.kc_lasting_laws.specs.Counts.{FewEach};
 ghost use Rattle.kc_lasting_laws.specs.Flat.{flat_history, versions_before};
@@ -21,10 +24,11 @@ ghost use Rattle.kc_xt.specs.Meaning.{Meaning};
 
 use kc_lasting::LastingCaller;
 
-/// The histories of the eras that have ended, one behind another, each with the versions that those before had made, are one list
-/// that is legal from the first store's opening. It makes what the last store opened with, versions added up, so that any history
-/// of the last era goes on from there.
+/// All that a handle sees of the eras begins with the store that was opened. The histories of the eras that have ended, one behind
+/// another, each with the versions that those before had made, are one list that is legal from that opening. It makes what the last
+/// store opened with, versions added up, so that any history of the last era goes on from there.
 pub fn the_eras_are_one_history()
+    ensures opening { (roll : TableId) (z : StoreView) (h : LastingHandle) (d : HandleView) → IsFirst roll z h → Moves (standing_of h) d → StandsAtFront (first_line z ∷ []) d.lines }
     ensures legal { (z : StoreView) (lines : List Line) → StandsAtFront (first_line z ∷ []) lines → AreEras lines → IsLegal (store_opening z) (flat_history lines) (left_by z (flat_history lines)) }
     ensures makes { (z y : StoreView) (lines : List Line) (k : ℕ) → StandsAtFront (first_line z ∷ []) lines → AreEras lines → length lines ≡ k + 1 → store_at lines k ≡ Some y → AgreesRaised y.locations (versions_before lines k) (left_by z (flat_history lines)) (store_opening y) }
     ensures goes_on { (z y : StoreView) (lines : List Line) (k : ℕ) (es : List Entry) → StandsAtFront (first_line z ∷ []) lines → AreEras lines → length lines ≡ k + 1 → store_at lines k ≡ Some y → IsLegal (store_opening y) es (left_by y es) → AllLieBelow y.locations es → IsLegal (store_opening z) (flat_history lines ++ map (entry_raised (versions_before lines k)) es) (left_by z (flat_history lines ++ map (entry_raised (versions_before lines k)) es)) }
