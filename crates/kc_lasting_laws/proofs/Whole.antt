@@ -76,7 +76,7 @@ entry_whole lines k history x e c = within_contains (map (entry_raised (versions
 
 -- ---- what was answered
 
-lowered : (ℕ → ℕ) → Store → Store
+abbrev lowered : (ℕ → ℕ) → Store → Store
 lowered b s l = record { version = (s l).version - b l; value = (s l).value }
 
 finds_lowered : (b : ℕ → ℕ) (f : Footprint) (s : Store) → Finds (footprint_raised b f) s → Finds f (lowered b s)
