@@ -7,7 +7,7 @@ use Rattle.kc_model.specs.declared.footprint.Seen.{Seen}
 use Rattle.kc_model.specs.declared.plain_store.Cell.{Cell}
 use Rattle.kc_lasting_laws.proofs.Raising.{agrees_raised, legal_join, legal_raised, made_join}
 use Rattle.kc_lasting.specs.Cuts.{AllFrom, left_by}
-use Rattle.kc_lasting.specs.Eras.{Follow, FollowsEra, LeavesValues, OpensOn, ended_at, line_after, store_at}
+use Rattle.kc_lasting.specs.Eras.{Follow, LeavesValues, OpensOn, ended_at, line_after, store_at}
 use Rattle.kc_lasting.specs.declared.line.Line.{Line}
 use Rattle.kc_store.specs.Knows.{IsWithin, here, later, none}
 use Rattle.kc_store.specs.Views.{NoteView, StoreView, store_opening}

@@ -1,5 +1,5 @@
 -- All eras as one history, from the first opening.
-use Rattle.std.proofs.Common.{◌≡◌, ◌≤◌, ◌⊎◌, inl, inr, ℕ, ◌+◌, ◌-◌, ◌*◌, List, [], ◌∷◌, ◌++◌, Some, length, map, refl, sym, ap, ◌∙◌, subst, arith}
+use Rattle.std.proofs.Common.{◌≡◌, ◌≤◌, ◌⊎◌, inl, inr, ℕ, ◌+◌, ◌-◌, ◌*◌, List, [], ◌∷◌, ◌++◌, Some, length, map, refl, sym, ap, subst, arith}
 use Rattle.std.proofs.Math.Logic.{∥∥₁_map}
 use Rattle.std.specs.Prelude.{Contains}
 use Rattle.atomic_table.specs.Seated.{TableId}
@@ -21,7 +21,6 @@ use Rattle.kc_model.specs.Legal.{IsLegal}
 use Rattle.kc_model.specs.Store.{Finds, Store}
 use Rattle.kc_model.specs.declared.footprint.Entry.{Entry}
 use Rattle.kc_model.specs.declared.footprint.Footprint.{Footprint}
-use Rattle.kc_model.specs.declared.footprint.Seen.{Seen}
 use Rattle.kc_model.specs.declared.plain_store.Cell.{Cell}
 use Rattle.kc_model.specs.declared.reply.Answer.{Answer}
 use Rattle.kc_roll.specs.Fronts.{StandsAtFront}
