@@ -13,3 +13,4 @@ pub mod GoingOver
 pub mod Moving
 pub mod Firsts
 pub mod Telling
+pub mod Gathering

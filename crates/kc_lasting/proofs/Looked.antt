@@ -1,8 +1,11 @@
 -- Looks at all locations, and the cut that they show.
 use Rattle.std.proofs.Common.{◌≡◌, ◌<◌, Bool, ℕ, zero, suc, ◌+◌, List, [], ◌∷◌, take, set, get_or, length, length-set, sym, ap, ◌∙◌, arith, subst}
 use Rattle.std.proofs.lemmas.List.{take_all}
+use Rattle.std.proofs.lemmas.List.Elements.{All-map}
+use Rattle.std.specs.Prelude.{All}
 use Rattle.kc_lasting.proofs.Made.{front_entries, front_is_all}
 use Rattle.kc_lasting.specs.Cuts.{AllFrom, IsCut, IsKnownAt, IsLastAt, LooksOnceAt, standing_at}
+use Rattle.kc_model.specs.Footprint.{IsBelow}
 use Rattle.kc_model.specs.Legal.{IsLegal}
 use Rattle.kc_model.specs.declared.footprint.Seen.{Seen}
 use Rattle.kc_hang.proofs.kc_table_views.Knowing.{whole}
@@ -12,10 +15,11 @@ use Rattle.kc_hang.specs.kc_table_views.Known.{IsMeant}
 use Rattle.kc_model.specs.declared.footprint.Entry.{Entry}
 use Rattle.kc_store.proofs.Remembering.{learns_on, learns_same}
 use Rattle.kc_hang.proofs.kc_table_laws.Keeping.{keeps_same, keeps_then}
+use Rattle.kc_store.proofs.Within.{known_lie}
 use Rattle.kc_store.specs.Knows.{OnlyLearns}
 use Rattle.kc_store.specs.Reads.{Stood}
 use Rattle.kc_store.specs.Views.{CallerView, StoreView, caller_view, store_view}
-use Rattle.kc_store.specs.kc_machine_traces.Histories.{ending_store, entries, made, seen_as_cell}
+use Rattle.kc_store.specs.kc_machine_traces.Histories.{Placed, ending_store, entries, made, seen_as_cell}
 use Rattle.kc_store.specs.kc_machine_traces.Traces.{first_store}
 use Rattle.kc_store.specs.kc_table_laws.Tasks.{KeepsKnown}
 use Rattle.kc_store.specs.kc_table_moves.Views.{SeatView, knows, opening_at_seat}
@@ -69,10 +73,16 @@ legal_behind v w n j =
     let meant : IsMeant (opening_at_seat w) w.past = subst (λ (z : TableView). IsMeant (opening_of z.origin) w.past) (sym j.learns.of) j.learns.meant in
     (whole (opening_at_seat w) w.past meant).legal
 
+-- a seat that has learned knows of entries of its store alone
+pub lies_behind : (v w : SeatView) (n : TableNoteView) → Joined v n w → All (λ (e : Entry). IsBelow (opening_at_seat w).locations e.footprint) (entries (knows w))
+lies_behind v w n j =
+    let meant : IsMeant (opening_at_seat w) w.past = subst (λ (z : TableView). IsMeant (opening_of z.origin) w.past) (sym j.learns.of) j.learns.meant in
+    All-map (λ (e : Entry). IsBelow (opening_at_seat w).locations e.footprint) (λ (x : Placed). x.entry) (knows w) (λ k d lt. (known_lie (opening_at_seat w) w.past meant.0 k d lt).reads)
+
 pub is_cut : (w : SeatView) (z : StoreView) (es : List Entry) (cells : List Seen) → z ≡ store_view w.of → es ≡ entries (knows w) → length cells ≡ z.locations
-    → IsLegal (first_store (opening_at_seat w)) (entries (knows w)) (ending_store (first_store (opening_at_seat w)) (knows w)) → AllFrom (IsKnownAt w) 0 cells → AllFrom (IsLastAt w) 0 cells → IsCut z es cells
-is_cut w z es cells of is all legal known last =
-    let at : IsCut (store_view w.of) (entries (knows w)) cells = record { legal = legal; all = all ∙ ap (λ (z : StoreView). z.locations) of; stands = all_both (IsKnownAt w) (IsLastAt w) _ (stands_at w) 0 cells known last } in
+    → IsLegal (first_store (opening_at_seat w)) (entries (knows w)) (ending_store (first_store (opening_at_seat w)) (knows w)) → All (λ (e : Entry). IsBelow (opening_at_seat w).locations e.footprint) (entries (knows w)) → AllFrom (IsKnownAt w) 0 cells → AllFrom (IsLastAt w) 0 cells → IsCut z es cells
+is_cut w z es cells of is all legal lies known last =
+    let at : IsCut (store_view w.of) (entries (knows w)) cells = record { legal = legal; lies = lies; all = all ∙ ap (λ (z : StoreView). z.locations) of; stands = all_both (IsKnownAt w) (IsLastAt w) _ (stands_at w) 0 cells known last } in
     subst (λ (z : StoreView). IsCut z es cells) (sym of) (subst (λ (es : List Entry). IsCut (store_view w.of) es cells) (sym is) at)
 
 -- ---- while one looks

@@ -23,10 +23,10 @@ pub begins_on : {A : Type 0} (xs ys zs : List A) → StandsAtFront xs ys → Sta
 begins_on {A} xs ys zs (r, e) (s, q) = (r ++ s, q ∙ ap (λ (l : List A). l ++ s) e ∙ append_assoc xs r s)
 
 pub moves_first : (c : HandleView) → Moves c c
-moves_first c = record { lines = begins_first c.lines; era = omega arith }
+moves_first c = record { roll = refl; lines = begins_first c.lines; era = omega arith }
 
 pub moves_on : (c d e : HandleView) → Moves c d → Moves d e → Moves c e
-moves_on c d e m n = record { lines = begins_on c.lines d.lines e.lines m.lines n.lines; era = (let a = m.era in let b = n.era in omega (arith, a, b)) }
+moves_on c d e m n = record { roll = n.roll ∙ m.roll; lines = begins_on c.lines d.lines e.lines m.lines n.lines; era = (let a = m.era in let b = n.era in omega (arith, a, b)) }
 
 pub places_first : (p : Place) → MovesOn p p
 places_first p = record { lines = begins_first p.page.seen; era = omega arith }

@@ -1,5 +1,7 @@
 -- What handles of a store that lasts are told.
 use Rattle.std.specs.Prelude.{◌≡◌, ◌⊎◌, ◌≤◌, ◌++◌, ◌∷◌, ℕ, Bool, true, false, List, [], Option, Some, None}
+use Rattle.atomic_table.specs.Seated.{TableId}
+use Rattle.std.specs.Arc.{arc_value}
 use Rattle.kc_lasting.specs.Eras.{IsEnded}
 use Rattle.kc_lasting.specs.Settled.{CountsIn, IsCutAway, StandsBefore, StaysAsSeen}
 use Rattle.kc_lasting.specs.declared.caller.Attempt.{Attempt}
@@ -71,17 +73,19 @@ is_worn_verdict (verdict.Busy steps) = false
 
 -- ---- handles
 
--- the number of its era, the eras up to it and maybe more, and its caller there
+-- the roll of all eras, the number of its own, the eras up to it and maybe more, and its caller there
 pub record HandleView : Type 0 where
+  pub roll : TableId
   pub era : ℕ
   pub lines : List Line
   pub caller : CallerView
 
 abbrev pub standing_of : LastingCaller → HandleView
-standing_of h = record { era = h.place.era; lines = h.place.page.seen; caller = h.client.caller }
+standing_of h = record { roll = (arc_value h.shared).roll; era = h.place.era; lines = h.place.page.seen; caller = h.client.caller }
 
--- what it knew of the eras it knows, and it goes back to none
+-- a handle of the same eras: what it knew of them it knows, and it goes back to none
 pub record Moves (c d : HandleView) : Type 0 where
+  pub roll : d.roll ≡ c.roll
   pub lines : StandsAtFront c.lines d.lines
   pub era : c.era ≤ d.era
 

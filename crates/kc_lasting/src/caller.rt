@@ -3,7 +3,7 @@
 ghost use Rattle.std.specs.Prelude.{◌≡◌, ◌≤◌, ◌<◌, Some, true};
 ghost use Rattle.std.specs.Arc.{arc_value};
 ghost use Rattle.kc_lasting.specs.Eras.{AreEras, store_at};
-ghost use Rattle.kc_lasting.specs.Told.{AttemptsSo, CommitsInSomeEra, EndsIn, Moves, ReadsSo, Renews, ViewsAtLast, ViewsOnce, WaitsTill, is_worn_verdict, standing_of};
+ghost use Rattle.kc_lasting.specs.Told.{AttemptsSo, CommitsInSomeEra, EndsIn, Moves, ReadsSo, Renews, ViewsAtLast, ViewsOnce, is_worn_verdict, standing_of};
 ghost use Rattle.kc_roll.specs.Fronts.{StandsAtFront};
 ghost use Rattle.kc_store.specs.Verdicts.{verdict_as, verdict_of};
 ghost use Rattle.kc_xt.specs.Commit.{tried_of};
@@ -143,11 +143,10 @@ impl LastingCaller {
         }
     }
 
-    /// StandsAtFront a new era, where the last one is the handle's, and goes over to the last one. Others' commits wait meanwhile, so a quiet
+    /// Begins a new era, where the last one is the handle's, and goes over to the last one. Others' commits wait meanwhile, so a quiet
     /// moment is best. False: there was no memory.
     pub fn renew<R: Wait>(&mut self, rt: &R) -> bool
         ensures renews { Renews result (standing_of self.old) (standing_of self.new) }
-        ensures roll { (arc_value self.new.shared).roll ≡ (arc_value self.old.shared).roll }
         ensures moves { Moves (standing_of self.old) (standing_of self.new) }
         ensures size { self.new.client.locations ≡ self.old.client.locations }
     {
@@ -166,7 +165,7 @@ impl LastingCaller {
     /// Another handle comes back, and its era ends: all that it had committed there stands in the history with which it ended, of which
     /// this handle knows now. False: there was no memory.
     pub fn take_in<R: Wait>(&mut self, rt: &R, other: LastingCaller) -> bool
-        requires { (arc_value other.shared).roll ≡ (arc_value self.old.shared).roll }
+        requires { (standing_of other).roll ≡ (standing_of self.old).roll }
         ensures ends { result ≡ true → EndsIn (standing_of self.new).lines (standing_of other) }
         ensures moves { Moves (standing_of self.old) (standing_of self.new) }
         ensures kept { (self.new.shared ≡ self.old.shared) × (self.new.client ≡ self.old.client) }
@@ -193,38 +192,6 @@ impl LastingCaller {
         ensures kept { (self.new.shared ≡ self.old.shared) × (self.new.client ≡ self.old.client) }
     {
         self.shared.roll.join(&mut self.place.page, page);
-    }
-
-    /// Commits a transaction, and waits where it would be answered Later.
-    pub fn commit_waiting_into<R: Wait, T: Transact>(
-        &mut self,
-        rt: &R,
-        transaction: &T,
-        footprint: &mut Footprint,
-    ) -> Answered
-        requires fit { T.is_fit transaction.now }
-        requires within { T.end transaction.now ≤ self.old.client.locations }
-        ensures told { WaitsTill (limited (T.most transaction.now) (T.meaning transaction.now)) result (standing_of self.old) footprint.new (standing_of self.new) }
-        ensures moves { Moves (standing_of self.old) (standing_of self.new) }
-        ensures size { self.new.client.locations ≡ self.old.client.locations }
-    {
-        'tries: for _ in rt.forever() {
-            let answered = self.commit_into(rt, transaction, footprint);
-            if is_later(&answered) {
-                self.wait(rt, footprint);
-            } else {
-                return answered;
-            }
-        }
-        unreachable!()
-    }
-
-    // Hangs on what was read until something of it may have changed, or the era ends.
-    fn wait<R: Wait>(&mut self, rt: &R, footprint: &Footprint)
-        ensures moves { Moves (standing_of self.old) (standing_of self.new) }
-        ensures size { self.new.client.locations ≡ self.old.client.locations }
-    {
-        self.client.wait(rt, footprint);
     }
 
     /// Views a transaction: see `view_into` of a store.
@@ -305,8 +272,4 @@ fn is_worn(fate: Fate, trial: &Trial) -> bool
         Fate::Entered { .. } => matches!(trial.went, Went::Worn(_)),
         Fate::Lost { .. } | Fate::Busy { .. } => false,
     }
-}
-
-fn is_later(answered: &Answered) -> bool {
-    matches!(answered, Answered::Later)
 }

@@ -20,6 +20,7 @@ use std::alloc::Global;
 use std::snapshot::Snapshot;
 use std::sync::{Arc, Wait};
 use std::thread;
+use std::time::Duration;
 
 /// A caller, and its share of the era that it is of. Behind the locations that transactions touch the store has one more, the flag:
 /// who cuts the era off puts it first. So who finds it as it was knows less than is known at the cut.
@@ -200,8 +201,8 @@ impl Client {
         look(rt, &era.store, caller, at)
     }
 
-    /// Hangs on what was read, and on the flag, until something of it may have changed.
-    pub(crate) fn wait<R: Wait>(&mut self, rt: &R, footprint: &Footprint)
+    /// Hangs on what was read, and on the flag, until something of it may have changed, for so long at most.
+    pub(crate) fn wait<R: Wait>(&mut self, rt: &R, footprint: &Footprint, limit: Option<Duration>)
         ensures learns { OnlyLearns self.old.caller self.new.caller }
         ensures seen { self.new.seen.value ≡ self.old.seen.value }
         ensures size { self.new.locations ≡ self.old.locations }
@@ -220,7 +221,10 @@ impl Client {
             return thread::yield_now();
         }
         if reads.iter().all(|read| read.loc.0 <= end) {
-            era.store.wait_for_a_change(rt, caller, &hang);
+            match limit {
+                Some(left) => era.store.wait_a_while(rt, caller, &hang, left),
+                None => era.store.wait_for_a_change(rt, caller, &hang),
+            }
         }
     }
 }

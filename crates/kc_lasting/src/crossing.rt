@@ -162,7 +162,7 @@ fn cross_once<R: Wait>(
     }
 }
 
-// StandsAtFront a new era if that is wanted, where the last one is the handle's.
+// Begins a new era if that is wanted, where the last one is the handle's.
 fn renew_if_last<R: Wait>(rt: &R, shared: &Shared, eras: &mut Eras, place: &mut Place, begins: bool)
     requires kept { ErasKept shared.now.roll eras.old }
     ensures kept { ErasKept shared.now.roll eras.new }

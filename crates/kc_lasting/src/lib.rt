@@ -15,6 +15,7 @@ mod crossing;
 mod cutting;
 mod era;
 mod eras;
+mod finishing;
 mod handle;
 mod laws;
 mod line;
@@ -22,6 +23,7 @@ mod opening;
 mod renewing;
 mod settling;
 mod shared;
+mod waiting;
 
 pub use caller::Attempt;
 pub use handle::LastingCaller;

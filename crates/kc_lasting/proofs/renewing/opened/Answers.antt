@@ -23,4 +23,4 @@ pub returns-clause-opens : goal.returns-clause-opens
 returns-clause-opens c =
     let z = c.in_ok-store.store in
     let kept = (All-pop (IsFirstClient z) c.in_ok-clients.clients.items c.pop.new.self.items (Some c.in-Some.fresh) c.in-Some.ensures.items c.in_ok-clients.ensures.of).1 in
-    subst (OpensOn c.args.values.now) (sym kept.of) (record { versions = _; callers = c.args.callers; opens = c.in_ok-store.ensures.opens })
+    subst (OpensOn c.args.values.now) (sym kept.of) (record { callers = c.args.callers; opens = c.in_ok-store.ensures.opens })

@@ -5,7 +5,7 @@ use Rattle.std.specs.Prelude.{Bool}
 use Rattle.kc_lasting.proofs.handle.LastingCaller.take_in.Goals as goal
 
 pub see-requires-clause-of : goal.see-requires-clause-of
-see-requires-clause-of g c = c.renew.new.self.of ∙ c.renew.ensures.roll ∙ c.requires
+see-requires-clause-of g c = c.renew.new.self.of ∙ c.renew.ensures.moves.roll ∙ c.requires
 
 pub returns-clause-ends : goal.returns-clause-ends
 returns-clause-ends g c = λ _.

@@ -1,0 +1,4 @@
+pub mod Raising
+pub mod Flattening
+pub mod Whole
+pub mod Counting

@@ -1,0 +1,3 @@
+pub mod Raised
+pub mod Flat
+pub mod Counts
