@@ -1,2 +1,3 @@
 pub mod Parts
 pub mod Acts
+pub mod Unknown

@@ -1,5 +1,5 @@
 -- What an act makes of each job, by what the cells show of it.
-use Rattle.std.specs.Prelude.{◌≡◌, ℕ, ◌⊎◌, ◌+◌, ◌*◌, ◌<◌, ◌≤◌, Option, Some}
+use Rattle.std.specs.Prelude.{◌≡◌, ℕ, ◌⊎◌, ◌+◌, ◌*◌, ◌<◌, ◌≤◌, Option, Some, None}
 use Rattle.kc_cells.specs.OnePlace.{PlaceHolds, value_held}
 use Rattle.kc_cells.specs.Promise.{promise_value}
 use Rattle.kc_cells.specs.declared.promise.PromiseAct.TheVariants.{Resolve}
@@ -43,6 +43,11 @@ job_at s m job = job_of (value_at (hash_shown s.states m) job) (value_held (end_
 -- the cells are a table's and promises'
 abbrev pub AreJobCells : Jobs → (ℕ → ℕ) → Type 0
 AreJobCells s m = WellFormed (HashStandsFor s.states) m × ((job : ℕ) → job < s.many → WellFormed (PlaceHolds (end_cell s job)) m)
+
+-- of no job anything is known
+pub record AreUnknown (s : Jobs) (m : ℕ → ℕ) : Type 0 where
+  pub cells : AreJobCells s m
+  pub unknown : (job : ℕ) → job < s.many → job_at s m job ≡ job_of None None
 
 -- where it replies, the cells stay such, and each job, what was replied, and the job then stand so to each other
 pub record TakesJobs (s : Jobs) (so : ℕ → Job → Reply → Job → Type 0) (p : Meaning) : Type 0 where

@@ -1,23 +1,29 @@
 //! The jobs, and the acts on them.
 
-ghost use Rattle.std.specs.Prelude.{◌≡◌, ◌≤◌, ◌<◌, Some, None, false};
+ghost use Rattle.std.specs.Prelude.{◌≡◌, ◌≤◌, ◌<◌, ◌+◌, ◌*◌, Some, None, false, IfOk, length};
 ghost use Rattle.kc_cells.specs.Promise.{promise_meaning};
 ghost use Rattle.kc_cells.specs.declared.promise.PromiseAct.TheVariants as PromiseAct;
 ghost use Rattle.kc_compose.specs.Found.{moves_item};
 ghost use Rattle.kc_compose.specs.declared.sort.Sort.TheVariants as Sort;
 ghost use Rattle.kc_hash.specs.declared.operation.HashAct.TheVariants as HashAct;
+ghost use Rattle.kc_hash.specs.Meaning.{hash_cells_end};
 ghost use Rattle.kc_jobs.specs.declared.jobs.TheConstants.{CANCELLED, DONE, RUNNING, WAITING};
 ghost use Rattle.kc_jobs_laws.specs.Acts.{moves_meaning, settles_meaning, starts_meaning, starts_next, submits_job, submits_meaning};
-ghost use Rattle.kc_jobs_laws.specs.Taken.{AreJobsLaid, IsEndOf, MovesJob, StartsJob, StaysSo, TakesJobs, marked_as, told_then};
+ghost use Rattle.kc_jobs_laws.specs.Taken.{AreJobsLaid, AreUnknown, IsEndOf, MovesJob, StartsJob, StaysSo, TakesJobs, marked_as, told_then};
+ghost use Rattle.kc_lay.specs.Placed.{HoldsAtOpening};
+ghost use Rattle.kc_model.specs.declared.plain_store.TheConstants.{MOST_LOCATIONS};
 ghost use Rattle.kc_model.specs.declared.reply.Reply.TheVariants as Reply;
 ghost use Rattle.kc_queue.specs.Meaning.{queue_cells_end};
+ghost use Rattle.kc_xt.specs.declared.structure.TheConstants.{MOST_BUCKETS, MOST_ITEMS};
 
 use kc_cells::{Promise, PromiseAct, PromiseOp};
 use kc_compose::{Both, Fed, Give, IntoQueue, Say, Unless, When};
 use kc_hash::{Hash, HashOp};
 use kc_jobs::{Begin, cancel_job, end_job, release_job, start_job, submit_job};
-use kc_lay::Locations;
+use kc_lay::{Layout, Locations, stays_under_additions};
 use kc_queue::{Queue, QueueOp};
+use kc_xt::MOST_BUCKETS;
+use std::alloc::AllocError;
 
 /// So many jobs, numbered from 0: a promise of the end of each, side by side, and behind these a table of what is known of
 /// each. An end is told 0 where the job was cancelled, and else its result.
@@ -29,6 +35,27 @@ pub struct Jobs {
 }
 
 impl Jobs {
+    /// So many jobs behind all that lies there; of none is anything known.
+    ///
+    /// # Errors
+    ///
+    /// - AllocError: there is no memory for them; some of their cells may have been laid
+    pub fn lay(layout: &mut Layout, many: u32) -> Result<Jobs, AllocError>
+        requires some { 1 ≤ many }
+        requires most { many ≤ MOST_ITEMS }
+        requires room { length layout.old + 2 + MOST_BUCKETS + 5 * many ≤ MOST_LOCATIONS }
+        ensures many { IfOk result (λ s. s.many ≡ many) }
+        ensures laid { IfOk result (λ s. AreJobsLaid s) }
+        ensures behind { IfOk result (λ s. length layout.old ≤ s.ends.base.0) }
+        ensures within { IfOk result (λ s. hash_cells_end s.states ≤ length layout.new) }
+        ensures opens { IfOk result (λ s. HoldsAtOpening (AreUnknown s) layout.new) }
+    {
+        stays_under_additions();
+        let ends = layout.locations(2 * many, 0)?;
+        let states = layout.hash(many.min(MOST_BUCKETS), many)?;
+        Ok(Jobs { many, ends, states })
+    }
+
     /// The end of a job.
     pub fn end_of(&self, job: u32) -> Promise
         requires laid { AreJobsLaid self.now }

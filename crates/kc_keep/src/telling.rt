@@ -6,7 +6,7 @@ ghost use Rattle.kc_await.specs.Viewing.{IsViewedAtLast};
 ghost use Rattle.kc_keep.specs.Only.{CommitsOnly, HasOnly, ServeFrom, Serves, reply_in};
 ghost use Rattle.kc_model.specs.declared.footprint.Footprint.{Footprint};
 ghost use Rattle.kc_store.specs.Backs.{AreAllCallers};
-ghost use Rattle.kc_store.specs.Knows.{CommitsSo, IsTold, OnlyLearns, TriesSo};
+ghost use Rattle.kc_store.specs.Knows.{CommitsSo, IsTold, OnlyLearns, Remembers, TriesSo};
 ghost use Rattle.kc_store.specs.Viewing.{IsViewed};
 ghost use Rattle.kc_store.specs.Views.{CallerView, StoreView, opened_caller};
 ghost use Rattle.kc_store.specs.declared.values.Outcome.{Outcome};
@@ -81,6 +81,23 @@ pub fn commit_kept<R: Wait, I: Invariant, T: Transact>(
     ensures so { (o : Outcome) × WaitsSo (limited (T.most act.now) (T.meaning act.now)) (T.end act.now) o caller.old caller.new × (result ≡ reply_in o) }
 {
     waited_of(invariant);
+    let outcome = commit_waiting(rt, store, caller, act);
+    reply_of(outcome)
+}
+
+/// Commits, where it would wait as soon as it needn't: its reply, or None where it is too large or worn.
+pub fn commit_replied<R: Wait, T: Transact>(
+    rt: &R,
+    store: &Store,
+    caller: &mut Caller,
+    act: &T,
+) -> Option<Reply>
+    requires caller { caller.old.of ≡ store.now }
+    requires fit { T.is_fit act.now }
+    requires within { T.end act.now ≤ store.now.locations }
+    ensures remembers { Remembers caller.old caller.new }
+    ensures so { (o : Outcome) × WaitsSo (limited (T.most act.now) (T.meaning act.now)) (T.end act.now) o caller.old caller.new × (result ≡ reply_in o) }
+{
     let outcome = commit_waiting(rt, store, caller, act);
     reply_of(outcome)
 }
