@@ -20,7 +20,7 @@ use Rattle.kc_hash.specs.declared.operation.HashOp.{HashOp}
 use Rattle.kc_jobs.specs.declared.jobs.TheConstants.{RUNNING, WAITING}
 use Rattle.kc_jobs_laws.proofs.Parts.{Found, Marked, On, Stays, Told, finds, marks, queues, tells}
 use Rattle.kc_jobs_laws.specs.Acts.{moves_meaning, settles_job, settles_meaning, starts_meaning, starts_next, submits_job, submits_meaning}
-use Rattle.kc_jobs_laws.specs.Taken.{AreJobCells, AreJobsLaid, IsEndOf, Job, MovesJob, StartsJob, StaysSo, TakesJobs, job_at, job_of, marked_as, told_then}
+use Rattle.kc_jobs_laws.specs.Taken.{AreJobCells, AreJobsLaid, IsEndOfJob, Job, MovesJob, StartsJob, StaysSo, TakesJobs, job_at, job_of, marked_as, told_then}
 use Rattle.kc_jobs_laws.specs.declared.jobs.Jobs.{Jobs}
 use Rattle.kc_model.specs.declared.reply.Reply.{Reply}
 use Rattle.kc_model.specs.declared.reply.Reply.TheVariants as reply
@@ -112,7 +112,7 @@ module _ (s : Jobs) (laid : AreJobsLaid s) where
     abbrev AfterIf : Bool → ℕ → ℕ → Job → Reply → Job → Type 0
     AfterIf this state v j a k = ((this ≡ true → j.state ≡ None) × (k ≡ cond this (job_of j.state (told_by v j.told)) j)) ⊎ (k ≡ cond this (job_of (Some state) (told_by v j.told)) j)
 
-    settles : (job old state v : ℕ) (end : Promise) → IsEndOf s job end → Does (MovesJob job (Some old) (told_then state v) i) (when_meaning (Is old) (finding s job) (settling s end job state v) (say_meaning (reply.Bool false)))
+    settles : (job old state v : ℕ) (end : Promise) → IsEndOfJob s job end → Does (MovesJob job (Some old) (told_then state v) i) (when_meaning (Is old) (finding s job) (settling s end job state v) (say_meaning (reply.Bool false)))
     settles job old state v end is = guarded job (Is old) (Some old) (AfterIf (i == job) state v) (MovesJob job (Some old) (told_then state v) i) (settling s end job state v) (reply.Bool false) both (found_number old) (λ j k a found. after j k a (i == job) refl found) (λ j k a q. inl q)
       where
         after : (j k : Job) (a : Reply) (this : Bool) → (i == job) ≡ this → (this ≡ true → j.state ≡ Some old) → AfterIf this state v j a k → MovesJob job (Some old) (told_then state v) i j a k
@@ -152,7 +152,7 @@ module _ (s : Jobs) (laid : AreJobsLaid s) where
     moves_on : (ready : Queue) (job : ℕ) → queue_cells_end ready ≤ s.ends.base.0 → Does Stays (moving ready job)
     moves_on ready job before = leads_more (AreJobCells s) (λ m a w. (is_of Full a ≡ false) × On s laid i lt Stays m a w) (On s laid i lt Stays) (moving ready job) (leads_wait (AreJobCells s) Full (On s laid i lt Stays) (queue_meaning (put_in ready job)) (queues s laid i lt (put_in ready job) before)) (λ m w a parts r. r.1)
 
-    awaits : (job : ℕ) (end : Promise) → IsEndOf s job end → (let o : PromiseOp = record { promise = end; act = await } in Does Stays (promise_meaning o))
+    awaits : (job : ℕ) (end : Promise) → IsEndOfJob s job end → (let o : PromiseOp = record { promise = end; act = await } in Does Stays (promise_meaning o))
     awaits job end is = let o : PromiseOp = record { promise = end; act = await } in leads_more (AreJobCells s) (On s laid i lt (Told (i == job) await)) (On s laid i lt Stays) (promise_meaning o) (tells s laid i lt job end await is) (λ m w a parts e. e ∙ by_test (i == job) (job_at s m i))
       where
         held : (o : Option ℕ) → (promise_value await o).content ≡ o
@@ -171,7 +171,7 @@ module _ (s : Jobs) (laid : AreJobsLaid s) where
   pub submitting : (line : Queue) (job : ℕ) → queue_cells_end line ≤ s.ends.base.0 → TakesJobs s (MovesJob job None (marked_as WAITING)) (submits_meaning (submits_job s.states line job))
   submitting line job before = takes (MovesJob job None (marked_as WAITING)) (submits_meaning (submits_job s.states line job)) (λ i lt. submits i lt line job before)
 
-  pub settled_by : (job old state v : ℕ) (end : Promise) → IsEndOf s job end → TakesJobs s (MovesJob job (Some old) (told_then state v)) (settles_meaning (settles_job s.states end job old state v))
+  pub settled_by : (job old state v : ℕ) (end : Promise) → IsEndOfJob s job end → TakesJobs s (MovesJob job (Some old) (told_then state v)) (settles_meaning (settles_job s.states end job old state v))
   settled_by job old state v end is = takes (MovesJob job (Some old) (told_then state v)) (settles_meaning (settles_job s.states end job old state v)) (λ i lt. settles i lt job old state v end is)
 
   pub releasing : (line ready : Queue) → queue_cells_end line ≤ s.ends.base.0 → queue_cells_end ready ≤ s.ends.base.0 → TakesJobs s StaysSo (moves_meaning (moves_item line ready))
@@ -180,5 +180,5 @@ module _ (s : Jobs) (laid : AreJobsLaid s) where
   pub starting : (ready : Queue) → queue_cells_end ready ≤ s.ends.base.0 → TakesJobs s StartsJob (starts_meaning (starts_next s ready))
   starting ready before = takes StartsJob (starts_meaning (starts_next s ready)) (λ i lt. fed i lt ready (beginning s) (StartsJob i) before (begins i lt) (λ j k a q. inl q))
 
-  pub awaiting : (job : ℕ) (end : Promise) → IsEndOf s job end → (let o : PromiseOp = record { promise = end; act = await } in TakesJobs s StaysSo (promise_meaning o))
+  pub awaiting : (job : ℕ) (end : Promise) → IsEndOfJob s job end → (let o : PromiseOp = record { promise = end; act = await } in TakesJobs s StaysSo (promise_meaning o))
   awaiting job end is = let o : PromiseOp = record { promise = end; act = await } in takes StaysSo (promise_meaning o) (λ i lt. awaits i lt job end is)

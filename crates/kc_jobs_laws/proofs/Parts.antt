@@ -22,7 +22,7 @@ use Rattle.kc_model.specs.declared.reply.Reply.{Reply}
 use Rattle.kc_queue.proofs.QueueLaw.{queue_stays}
 use Rattle.kc_queue.specs.Meaning.{queue_cells_end, queue_meaning, queue_program}
 use Rattle.kc_queue.specs.declared.operation.QueueOp.{QueueOp}
-use Rattle.kc_jobs_laws.specs.Taken.{AreJobCells, AreJobsLaid, IsEndOf, Job, end_cell, job_at, job_of}
+use Rattle.kc_jobs_laws.specs.Taken.{AreJobCells, AreJobsLaid, IsEndOfJob, Job, end_cell, job_at, job_of}
 use Rattle.kc_jobs_laws.specs.declared.jobs.Jobs.{Jobs}
 use Rattle.kc_xt.specs.Meaning.{Meaning, replied}
 use Rattle.kc_xt.specs.Program.{replies}
@@ -86,7 +86,7 @@ module _ (s : Jobs) (laid : AreJobsLaid s) where
     abbrev Tells : Promise → PromiseAct → (ℕ → ℕ) → Reply → (ℕ → ℕ) → Type 0
     Tells end act m a w = ((promise_value act (value_held end.base.0 m)).outcome ≡ replied a) × (value_held end.base.0 w ≡ (promise_value act (value_held end.base.0 m)).content) × OnlyWithin end.base.0 (end.base.0 + place_cells) m w
 
-    pub tells : (job : ℕ) (end : Promise) (act : PromiseAct) → IsEndOf s job end → (let o : PromiseOp = record { promise = end; act = act } in LeadsTo (AreJobCells s) (On (Told (i == job) act)) (promise_meaning o))
+    pub tells : (job : ℕ) (end : Promise) (act : PromiseAct) → IsEndOfJob s job end → (let o : PromiseOp = record { promise = end; act = act } in LeadsTo (AreJobCells s) (On (Told (i == job) act)) (promise_meaning o))
     tells job end act is = let o : PromiseOp = record { promise = end; act = act } in leads_more (AreJobCells s) (Tells end act) (On (Told (i == job) act)) (promise_meaning o)
         (leads_also (WellFormed (PlaceHolds end.base.0)) (AreJobCells s) (Tells end act) (promise_meaning o) (leads_promise end act) (λ m parts. subst (λ b. WellFormed (PlaceHolds b) m) (sym is.cell) (parts.1 job is.one)) keeps)
         (λ m w a parts r. by_test m w (i == job) refl parts r.1 r.2)

@@ -18,7 +18,7 @@ abbrev pub end_cell : Jobs → ℕ → ℕ
 end_cell s job = s.ends.base.0 + 2 * job
 
 -- this promise is the end of that job
-pub record IsEndOf (s : Jobs) (job : ℕ) (end : Promise) : Type 0 where
+pub record IsEndOfJob (s : Jobs) (job : ℕ) (end : Promise) : Type 0 where
   pub one : job < s.many
   pub cell : end.base.0 ≡ end_cell s job
 

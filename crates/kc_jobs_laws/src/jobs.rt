@@ -9,7 +9,7 @@ ghost use Rattle.kc_hash.specs.declared.operation.HashAct.TheVariants as HashAct
 ghost use Rattle.kc_hash.specs.Meaning.{hash_cells_end};
 ghost use Rattle.kc_jobs.specs.declared.jobs.TheConstants.{CANCELLED, DONE, RUNNING, WAITING};
 ghost use Rattle.kc_jobs_laws.specs.Acts.{moves_meaning, settles_meaning, starts_meaning, starts_next, submits_job, submits_meaning};
-ghost use Rattle.kc_jobs_laws.specs.Taken.{AreJobsLaid, AreUnknown, IsEndOf, MovesJob, StartsJob, StaysSo, TakesJobs, marked_as, told_then};
+ghost use Rattle.kc_jobs_laws.specs.Taken.{AreJobsLaid, AreUnknown, IsEndOfJob, MovesJob, StartsJob, StaysSo, TakesJobs, marked_as, told_then};
 ghost use Rattle.kc_lay.specs.Placed.{HoldsAtOpening};
 ghost use Rattle.kc_model.specs.declared.plain_store.TheConstants.{MOST_LOCATIONS};
 ghost use Rattle.kc_model.specs.declared.reply.Reply.TheVariants as Reply;
@@ -60,7 +60,7 @@ impl Jobs {
     pub fn end_of(&self, job: u32) -> Promise
         requires laid { AreJobsLaid self.now }
         requires job { job < self.now.many }
-        ensures { IsEndOf self.now job result }
+        ensures { IsEndOfJob self.now job result }
     {
         Promise::layout(self.ends.at(2 * job))
     }
@@ -83,7 +83,7 @@ impl Jobs {
     pub fn cancel(&self, job: u32) -> When<HashOp, Both<HashOp, PromiseOp>, Say>
         requires laid { AreJobsLaid self.now }
         requires job { job < self.now.many }
-        ensures end { IsEndOf self.now job result.then.second.promise }
+        ensures end { IsEndOfJob self.now job result.then.second.promise }
         ensures asks { result.ask ≡ record { hash = self.now.states; act = HashAct.Find job } }
         ensures is { result.is ≡ Sort.Is WAITING }
         ensures marks { result.then.first ≡ record { hash = self.now.states; act = HashAct.Put job CANCELLED } }
@@ -119,7 +119,7 @@ impl Jobs {
     pub fn end(&self, job: u32, value: u32) -> When<HashOp, Both<HashOp, PromiseOp>, Say>
         requires laid { AreJobsLaid self.now }
         requires job { job < self.now.many }
-        ensures end { IsEndOf self.now job result.then.second.promise }
+        ensures end { IsEndOfJob self.now job result.then.second.promise }
         ensures asks { result.ask ≡ record { hash = self.now.states; act = HashAct.Find job } }
         ensures is { result.is ≡ Sort.Is RUNNING }
         ensures marks { result.then.first ≡ record { hash = self.now.states; act = HashAct.Put job DONE } }
@@ -134,7 +134,7 @@ impl Jobs {
     pub fn await_end(&self, job: u32) -> PromiseOp
         requires laid { AreJobsLaid self.now }
         requires job { job < self.now.many }
-        ensures end { IsEndOf self.now job result.promise }
+        ensures end { IsEndOfJob self.now job result.promise }
         ensures act { result.act ≡ PromiseAct.Await }
         ensures takes { TakesJobs self.now StaysSo (promise_meaning result) }
     {

@@ -1,20 +1,21 @@
 //! What is left when all callers came back, and what holds of it.
 
-ghost use Rattle.std.specs.Prelude.{◌≡◌, All, map};
-ghost use Rattle.kc_keep.specs.Keeping.{HoldsThroughout};
+ghost use Rattle.std.specs.Prelude.{◌≡◌, All, Contains, map};
+ghost use Rattle.kc_keep.specs.Keeping.{HoldsThroughout, SawReply, SaysWhere};
 ghost use Rattle.kc_keep.specs.Only.{HasOnly, ServeFrom};
 ghost use Rattle.kc_keep.specs.Steps.{IsTransitive, LastsThroughout, StepsThroughout};
 ghost use Rattle.kc_lay.specs.Placed.{HoldsAtOpening, OpensAsLaid};
 ghost use Rattle.kc_model.specs.Legal.{IsLegal};
 ghost use Rattle.kc_model.specs.Footprint.{IsBelow};
-ghost use Rattle.kc_store.specs.Backs.{AreAllCallers};
-ghost use Rattle.kc_store.specs.Knows.{IsHistory};
+ghost use Rattle.kc_model.specs.declared.reply.Reply.{Reply};
+ghost use Rattle.kc_store.specs.Backs.{AreAllCallers, ShowsItsSeat};
+ghost use Rattle.kc_store.specs.Knows.{IsHistory, Remembers};
 ghost use Rattle.kc_store.specs.Views.{CallerView, last, past_view, store_opening};
 ghost use Rattle.kc_store.specs.kc_table_moves.Views.{IsPast};
-ghost use Rattle.kc_xt.specs.Meaning.{values};
+ghost use Rattle.kc_xt.specs.Meaning.{Meaning, values};
 
 use crate::invariant::{Invariant, Stepping};
-use crate::laws::{holds_throughout, steps_throughout};
+use crate::laws::{holds_throughout, steps_throughout, views_see_it_hold};
 use crate::telling::serving_adds_up;
 use kc_lay::Layout;
 use kc_store::{Caller, Past, Store};
@@ -31,8 +32,10 @@ pub fn finish_kept<I: Invariant>(invariant: &I, store: Store, callers: Vec<Calle
     ensures shown { result ≡ past_view result.past }
     ensures throughout { HoldsThroughout (I.holds invariant.now) (store_opening store) result.history }
     ensures holds { I.holds invariant.now (values (last result)) }
+    ensures views { (m : Meaning) (a : Reply) (c d e : CallerView) → SawReply m a c d → Remembers d e → ShowsItsSeat e → Contains callers.items e → SaysWhere (I.holds invariant.now) (store_opening store) result.history c.known m a }
 {
     holds_throughout(invariant);
+    views_see_it_hold(invariant);
     store.finish(callers)
 }
 

@@ -2,12 +2,10 @@
 
 ghost use Rattle.std.specs.Prelude.{◌≡◌, ◌<◌};
 ghost use Rattle.kc_keep.specs.Only.{Serves};
-ghost use Rattle.kc_sched.specs.Jobs.{GoesSo, HasSched};
+ghost use Rattle.kc_sched.specs.Sched.{GoesSo, HasSched};
 
 use crate::sched::{JOBS, Sched};
-use kc_cells::{PromiseAct, PromiseOp};
-use kc_jobs::{cancel_job, end_job, release_job, start_job, submit_job};
-use kc_keep::{commit_kept, serving_adds_up};
+use kc_keep::commit_kept;
 use kc_model::Reply;
 use kc_store::{Caller, Store};
 use std::sync::Wait;
@@ -35,21 +33,18 @@ fn result_of(job: u32) -> u32 {
 }
 
 /// Submits all jobs, and cancels each second one, if it still waits. Then it waits for each job's end.
+#[tactic(auto, using(kc_keep::proofs::Serving::serves_then))]
 pub fn ask<R: Wait>(rt: &R, store: &Store, mut client: Caller, sched: &Sched) -> (Caller, Tally)
     requires client { client.of ≡ store.now }
     requires sched { HasSched sched.now store.now.locations }
     ensures { Serves (GoesSo sched.now) client result.0 }
 {
-    serving_adds_up(sched);
     let mut tally = NONE;
     for job in 0..JOBS {
         submit(rt, store, &mut client, sched, job, &mut tally);
     }
     for job in 0..JOBS {
-        let end = PromiseOp {
-            promise: sched.end_of(job),
-            act: PromiseAct::Await,
-        };
+        let end = sched.jobs.await_end(job);
         if let Some(Reply::Value(result)) = commit_kept(rt, store, &mut client, sched, &end) {
             let full = if result == 0 { result_of(job) } else { result };
             tally.told = tally.told.wrapping_add(1);
@@ -59,6 +54,7 @@ pub fn ask<R: Wait>(rt: &R, store: &Store, mut client: Caller, sched: &Sched) ->
     (client, tally)
 }
 
+#[tactic(auto, using(kc_keep::proofs::Serving::serves_then))]
 fn submit<R: Wait>(
     rt: &R,
     store: &Store,
@@ -72,13 +68,12 @@ fn submit<R: Wait>(
     requires job { job < JOBS }
     ensures { Serves (GoesSo sched.now) client.old client.new }
 {
-    serving_adds_up(sched);
-    let enter = submit_job(sched.states, sched.line, job);
+    let enter = sched.jobs.submit(sched.line, job);
     if commit_kept(rt, store, client, sched, &enter) == Some(Reply::Unit) {
         tally.submitted = tally.submitted.wrapping_add(1);
     }
     if job % 2 == 1 {
-        let cancel = cancel_job(sched.states, sched.end_of(job), job);
+        let cancel = sched.jobs.cancel(job);
         if commit_kept(rt, store, client, sched, &cancel) == Some(Reply::Unit) {
             tally.settled = tally.settled.wrapping_add(1);
         }
@@ -86,13 +81,13 @@ fn submit<R: Wait>(
 }
 
 /// Lets as many jobs run as there are, one after another.
+#[tactic(auto, using(kc_keep::proofs::Serving::serves_then))]
 pub fn tick<R: Wait>(rt: &R, store: &Store, mut clock: Caller, sched: &Sched) -> Caller
     requires clock { clock.of ≡ store.now }
     requires sched { HasSched sched.now store.now.locations }
     ensures { Serves (GoesSo sched.now) clock result }
 {
-    serving_adds_up(sched);
-    let release = release_job(sched.line, sched.ready);
+    let release = sched.jobs.release(sched.line, sched.ready);
     for _ in 0..JOBS {
         commit_kept(rt, store, &mut clock, sched, &release);
     }
@@ -100,12 +95,12 @@ pub fn tick<R: Wait>(rt: &R, store: &Store, mut clock: Caller, sched: &Sched) ->
 }
 
 /// Takes half of the jobs, and ends each that it could start.
+#[tactic(auto, using(kc_keep::proofs::Serving::serves_then))]
 pub fn work<R: Wait>(rt: &R, store: &Store, mut worker: Caller, sched: &Sched) -> (Caller, Tally)
     requires worker { worker.of ≡ store.now }
     requires sched { HasSched sched.now store.now.locations }
     ensures { Serves (GoesSo sched.now) worker result.0 }
 {
-    serving_adds_up(sched);
     let mut tally = NONE;
     for _ in 0..JOBS / 2 {
         one_job(rt, store, &mut worker, sched, &mut tally);
@@ -113,16 +108,16 @@ pub fn work<R: Wait>(rt: &R, store: &Store, mut worker: Caller, sched: &Sched) -
     (worker, tally)
 }
 
+#[tactic(auto, using(kc_keep::proofs::Serving::serves_then))]
 fn one_job<R: Wait>(rt: &R, store: &Store, worker: &mut Caller, sched: &Sched, tally: &mut Tally)
     requires worker { worker.old.of ≡ store.now }
     requires sched { HasSched sched.now store.now.locations }
     ensures { Serves (GoesSo sched.now) worker.old worker.new }
 {
-    serving_adds_up(sched);
-    let start = start_job(sched.ready, sched.states);
+    let start = sched.jobs.start(sched.ready);
     if let Some(Reply::Value(job)) = commit_kept(rt, store, worker, sched, &start) {
         if job < JOBS {
-            let end = end_job(sched.states, sched.end_of(job), job, result_of(job));
+            let end = sched.jobs.end(job, result_of(job));
             if commit_kept(rt, store, worker, sched, &end) == Some(Reply::Unit) {
                 tally.settled = tally.settled.wrapping_add(1);
             }
