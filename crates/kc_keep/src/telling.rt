@@ -82,8 +82,7 @@ pub fn commit_kept<R: Wait, I: Invariant, T: Transact>(
     ensures so { (o : Outcome) × WaitsSo (limited (T.most act.now) (T.meaning act.now)) (T.end act.now) o caller.old caller.new × (result ≡ reply_in o) }
 {
     waited_of(invariant);
-    let outcome = commit_waiting(rt, store, caller, act);
-    reply_of(outcome)
+    commit_replied(rt, store, caller, act)
 }
 
 /// Views one of the invariant's meanings: its reply, or None where the view ended without one, or as a commit.
