@@ -1,0 +1,4 @@
+pub mod Waiting
+pub mod Looks
+pub mod Adds
+pub mod Viewing

@@ -1,0 +1,5 @@
+pub mod OnePlaces
+pub mod Sums
+pub mod MvarLaw
+pub mod PromiseLaw
+pub mod AccLaw

@@ -1,0 +1,4 @@
+pub mod OnePlace
+pub mod Mvar
+pub mod Promise
+pub mod Accumulator

@@ -1,0 +1,11 @@
+pub mod Cells
+pub mod Changes
+pub mod Counts
+pub mod DllistLaw
+pub mod Rings
+pub mod Runs
+pub mod Same
+pub mod Standing
+pub mod Times
+pub mod Values
+pub mod Walks

@@ -1,0 +1,5 @@
+pub mod Lines
+pub mod Looks
+pub mod Passes
+pub mod Aids
+pub mod Swaps

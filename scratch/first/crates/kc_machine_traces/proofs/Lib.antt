@@ -1,0 +1,39 @@
+pub mod Follows
+pub mod ByHand
+pub mod ByPlace
+pub mod Joins
+pub mod Swapping
+pub mod Others
+pub mod Moments
+pub mod Answers
+pub mod Known
+pub mod Whole
+pub mod Copies
+pub mod Stood
+pub mod Entries
+pub mod Numbers
+pub mod Statuses
+pub mod Onward
+pub mod Outcomes
+pub mod Targets
+pub mod PassWords
+pub mod Lives
+pub mod Gone
+pub mod Owing
+pub mod Moves
+pub mod Knowing
+pub mod Installing
+pub mod Halting
+pub mod Holders
+pub mod Facts
+pub mod Always
+pub mod Room
+pub mod Words
+pub mod Steps
+pub mod Accesses
+pub mod Bits
+pub mod Callers
+pub mod Runs
+pub use Rattle.kc_machine_invariants.proofs.kc_machine as kc_machine
+pub use Rattle.kc_machine_invariants.proofs as kc_machine_invariants
+pub use Rattle.kc_machine_invariants.proofs.kc_machine_steps as kc_machine_steps

@@ -1,0 +1,11 @@
+pub mod Bytes
+pub mod Writes
+pub mod ReadCalls
+pub mod Fetches
+pub mod Named
+pub mod Pens
+pub mod Stores
+pub mod Footprints
+pub mod Lists
+pub mod Sums
+pub mod Rises

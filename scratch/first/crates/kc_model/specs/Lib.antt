@@ -1,0 +1,11 @@
+pub mod Refilled
+pub mod Rising
+pub mod Footprint
+pub mod Cells
+pub mod Store
+pub mod Legal
+pub mod Outside
+pub mod Shelves
+pub mod Forms
+pub mod Pen
+pub mod Word

@@ -1,0 +1,3 @@
+pub mod QueueLaw
+pub mod Values
+pub mod Standing

@@ -1,0 +1,27 @@
+use Rattle.kc_xt.proofs.Chain.{exits, stop_read, then_read, does_true, does_retry, does_false, does_reply, stop_write, then_write}
+use Rattle.std.proofs.Common.{eq-eqb, ne_eqb}
+use Rattle.kc_queue.proofs.acts.deq.Goals as goal
+
+pub returns-in_err-held-clause-goes : goal.returns-in_err-held-clause-goes
+returns-in_err-held-clause-goes g c = exits c.from_residual.ensures.1 (stop_read c.in_err-held.ensures.goes)
+
+pub returns-then-waits-clause-goes : goal.returns-then-waits-clause-goes
+returns-then-waits-clause-goes g c = then_read c.in_ok-held.ensures.goes (rw (← c.min-count.ensures) (does_true _ _ _ (eq-eqb _ _ c.if-count-eq0.true) (does_true _ _ _ c.if-waits.true does_retry)))
+
+pub returns-then-count-eq0-clause-goes : goal.returns-then-count-eq0-clause-goes
+returns-then-count-eq0-clause-goes g c = then_read c.in_ok-held.ensures.goes (rw (← c.min-count.ensures) (does_true _ _ _ (eq-eqb _ _ c.if-count-eq0.true) (does_false _ _ _ c.if-waits.false does_reply)))
+
+pub returns-in_err-first-clause-goes : goal.returns-in_err-first-clause-goes
+returns-in_err-first-clause-goes g c = exits c.from_residual-in_err-first.ensures.1 (then_read c.in_ok-held.ensures.goes (rw (← c.min-count.ensures) (does_false _ _ _ (ne_eqb _ _ c.if-count-eq0.false) (stop_read c.in_err-first.ensures.goes))))
+
+pub returns-in_err-taken-clause-goes : goal.returns-in_err-taken-clause-goes
+returns-in_err-taken-clause-goes g c = exits c.from_residual-in_err-taken.ensures.1 (then_read c.in_ok-held.ensures.goes (rw (← c.min-count.ensures) (does_false _ _ _ (ne_eqb _ _ c.if-count-eq0.false) (then_read c.in_ok-first.ensures.goes (rw (← c.head_of-head.ensures.is) (stop_read c.in_err-taken.ensures.goes))))))
+
+pub returns-in_err-set-clause-goes : goal.returns-in_err-set-clause-goes
+returns-in_err-set-clause-goes g c = exits c.from_residual-in_err-set.ensures.1 (then_read c.in_ok-held.ensures.goes (rw (← c.min-count.ensures) (does_false _ _ _ (ne_eqb _ _ c.if-count-eq0.false) (then_read c.in_ok-first.ensures.goes (rw (← c.head_of-head.ensures.is) (then_read c.in_ok-taken.ensures.goes (stop_write c.in_err-set.ensures.goes)))))))
+
+pub returns-in_err-set-2-clause-goes : goal.returns-in_err-set-2-clause-goes
+returns-in_err-set-2-clause-goes g c = exits c.from_residual-in_err-set-2.ensures.1 (then_read c.in_ok-held.ensures.goes (rw (← c.min-count.ensures) (does_false _ _ _ (ne_eqb _ _ c.if-count-eq0.false) (then_read c.in_ok-first.ensures.goes (rw (← c.head_of-head.ensures.is) (then_read c.in_ok-taken.ensures.goes (then_write c.in_ok-set.ensures.goes (stop_write c.in_err-set-2.ensures.goes))))))))
+
+pub returns-clause-goes : goal.returns-clause-goes
+returns-clause-goes g c = then_read c.in_ok-held.ensures.goes (rw (← c.min-count.ensures) (does_false _ _ _ (ne_eqb _ _ c.if-count-eq0.false) (then_read c.in_ok-first.ensures.goes (rw (← c.head_of-head.ensures.is) (then_read c.in_ok-taken.ensures.goes (then_write c.in_ok-set.ensures.goes (then_write c.in_ok-set-2.ensures.goes does_reply)))))))

@@ -1,0 +1,3 @@
+pub mod StackLaw
+pub mod Values
+pub mod Standing

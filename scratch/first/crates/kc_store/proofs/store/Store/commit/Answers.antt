@@ -1,0 +1,21 @@
+use Rattle.kc_xt.specs.Meaning.{limited}
+use Rattle.std.proofs.Common.{◌∙◌, subst, sym}
+use Rattle.kc_store.proofs.Remembering.{answer_is, commits_so, only_pool}
+use Rattle.kc_store.specs.Knows.{NotesWear}
+use Rattle.kc_store.specs.Verdicts.{verdict_of}
+use Rattle.kc_store.proofs.store.Store.commit.Goals as goal
+
+pub returns-clause-so : goal.returns-clause-so
+returns-clause-so g c =
+    let r = c.commit_into-answered in
+    commits_so (limited (g.T.Transact.most c.args.transaction.now) (g.T.Transact.meaning c.args.transaction.now)) (g.T.Transact.end c.args.transaction.now) c.args.caller.now r.new.footprint r.new.caller c.of.result r.result c.of.ensures r.ensures.told r.ensures.within
+
+pub returns-clause-worn : goal.returns-clause-worn
+returns-clause-worn g c =
+    let r = c.commit_into-answered in
+    λ q. only_pool c.of.result (sym (answer_is c.of.result r.result r.new.footprint c.of.ensures) ∙ r.ensures.worn q)
+
+pub returns-clause-notes : goal.returns-clause-notes
+returns-clause-notes g c =
+    let r = c.commit_into-answered in
+    subst (λ a. NotesWear c.args.caller.now (verdict_of a) r.new.caller) (answer_is c.of.result r.result r.new.footprint c.of.ensures) r.ensures.notes

@@ -1,0 +1,15 @@
+pub mod Meaning
+pub mod Lines
+pub mod Program
+pub mod Peeks
+pub mod Log
+pub mod Calls
+pub mod Steps
+pub mod Law
+pub mod Commit
+pub mod Ended
+pub mod Single
+pub mod Stays
+pub mod Structure
+pub mod Worked
+pub mod Times
