@@ -3,9 +3,10 @@ use Rattle.std.proofs.Common.{◌≡◌, ℕ, ◌<◌, true, false, Option, Some
 use Rattle.std.specs.Prelude.{◌||◌}
 use Rattle.std.specs.Option.{is_some}
 use Rattle.kc_jobs.specs.declared.jobs.TheConstants.{CANCELLED, DONE, RUNNING, WAITING}
-use Rattle.kc_jobs_laws.specs.Taken.{AreUnknown, Job, MovesJob, StartsJob, StaysSo, TakesJobs, job_at, job_of, marked_as, told_then}
+use Rattle.kc_jobs_laws.specs.Taken.{AreJobCells, AreUnknown, Job, MovesJob, StartsJob, StaysSo, TakesJobs, job_at, job_of, marked_as, told_then}
+use Rattle.kc_jobs_laws.specs.declared.jobs.Jobs.{Jobs}
 use Rattle.kc_model.specs.declared.reply.Reply.{Reply}
-use Rattle.kc_sched.specs.Sched.{EachGoes, EndsStay, GoesSo, HasJobs, IsJob, JobGoes, cancelled, comes, done, ends, is_cancelled, is_settled_state, runs, starts, stays, unknown, waits}
+use Rattle.kc_sched.specs.Sched.{EachGoes, EndsStay, GoesSo, IsJob, JobGoes, cancelled, comes, done, ends, is_cancelled, is_settled_state, runs, starts, stays, unknown, waits}
 use Rattle.kc_sched.specs.declared.sched.Sched.{Sched}
 use Rattle.kc_sched.specs.declared.sched.TheConstants.{JOBS}
 use Rattle.kc_xt.specs.Meaning.{Meaning}
@@ -86,5 +87,5 @@ two_settled s m w x first second job lt e = let same = first job lt e in second 
 
 -- ---- the opening
 
-pub opens : (s : Sched) (m : ℕ → ℕ) → s.jobs.many ≡ JOBS → AreUnknown s.jobs m → HasJobs s m
+pub opens : (s : Jobs) (m : ℕ → ℕ) → s.many ≡ JOBS → AreUnknown s m → (s.many ≡ JOBS) × AreJobCells s m × ((job : ℕ) → job < JOBS → IsJob (job_at s m job))
 opens s m many at = (many, at.cells, λ job lt. subst IsJob (sym (at.unknown job (omega (arith, lt, many)))) unknown)

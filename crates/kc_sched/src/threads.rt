@@ -5,7 +5,7 @@ ghost use Rattle.kc_keep.specs.Only.{Serves};
 ghost use Rattle.kc_sched.specs.Sched.{GoesSo, HasSched};
 
 use crate::sched::{JOBS, Sched};
-use kc_keep::commit_kept;
+use kc_keep::{commit_kept, serving_adds_up};
 use kc_model::Reply;
 use kc_store::{Caller, Store};
 use std::sync::Wait;
@@ -33,12 +33,12 @@ fn result_of(job: u32) -> u32 {
 }
 
 /// Submits all jobs, and cancels each second one, if it still waits. Then it waits for each job's end.
-#[tactic(auto, using(kc_keep::proofs::Serving::serves_then))]
 pub fn ask<R: Wait>(rt: &R, store: &Store, mut client: Caller, sched: &Sched) -> (Caller, Tally)
     requires client { client.of ≡ store.now }
     requires sched { HasSched sched.now store.now.locations }
     ensures { Serves (GoesSo sched.now) client result.0 }
 {
+    serving_adds_up(sched);
     let mut tally = NONE;
     for job in 0..JOBS {
         submit(rt, store, &mut client, sched, job, &mut tally);
@@ -54,7 +54,6 @@ pub fn ask<R: Wait>(rt: &R, store: &Store, mut client: Caller, sched: &Sched) ->
     (client, tally)
 }
 
-#[tactic(auto, using(kc_keep::proofs::Serving::serves_then))]
 fn submit<R: Wait>(
     rt: &R,
     store: &Store,
@@ -68,6 +67,7 @@ fn submit<R: Wait>(
     requires job { job < JOBS }
     ensures { Serves (GoesSo sched.now) client.old client.new }
 {
+    serving_adds_up(sched);
     let enter = sched.jobs.submit(sched.line, job);
     if commit_kept(rt, store, client, sched, &enter) == Some(Reply::Unit) {
         tally.submitted = tally.submitted.wrapping_add(1);
@@ -81,12 +81,12 @@ fn submit<R: Wait>(
 }
 
 /// Lets as many jobs run as there are, one after another.
-#[tactic(auto, using(kc_keep::proofs::Serving::serves_then))]
 pub fn tick<R: Wait>(rt: &R, store: &Store, mut clock: Caller, sched: &Sched) -> Caller
     requires clock { clock.of ≡ store.now }
     requires sched { HasSched sched.now store.now.locations }
     ensures { Serves (GoesSo sched.now) clock result }
 {
+    serving_adds_up(sched);
     let release = sched.jobs.release(sched.line, sched.ready);
     for _ in 0..JOBS {
         commit_kept(rt, store, &mut clock, sched, &release);
@@ -95,12 +95,12 @@ pub fn tick<R: Wait>(rt: &R, store: &Store, mut clock: Caller, sched: &Sched) ->
 }
 
 /// Takes half of the jobs, and ends each that it could start.
-#[tactic(auto, using(kc_keep::proofs::Serving::serves_then))]
 pub fn work<R: Wait>(rt: &R, store: &Store, mut worker: Caller, sched: &Sched) -> (Caller, Tally)
     requires worker { worker.of ≡ store.now }
     requires sched { HasSched sched.now store.now.locations }
     ensures { Serves (GoesSo sched.now) worker result.0 }
 {
+    serving_adds_up(sched);
     let mut tally = NONE;
     for _ in 0..JOBS / 2 {
         one_job(rt, store, &mut worker, sched, &mut tally);
@@ -108,12 +108,12 @@ pub fn work<R: Wait>(rt: &R, store: &Store, mut worker: Caller, sched: &Sched) -
     (worker, tally)
 }
 
-#[tactic(auto, using(kc_keep::proofs::Serving::serves_then))]
 fn one_job<R: Wait>(rt: &R, store: &Store, worker: &mut Caller, sched: &Sched, tally: &mut Tally)
     requires worker { worker.old.of ≡ store.now }
     requires sched { HasSched sched.now store.now.locations }
     ensures { Serves (GoesSo sched.now) worker.old worker.new }
 {
+    serving_adds_up(sched);
     let start = sched.jobs.start(sched.ready);
     if let Some(Reply::Value(job)) = commit_kept(rt, store, worker, sched, &start) {
         if job < JOBS {

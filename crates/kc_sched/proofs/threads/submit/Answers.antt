@@ -6,3 +6,9 @@ commit_kept-requires-clause-one g c = submitting c.args.sched.now c.args.job _ c
 
 pub commit_kept-requires-then-job-eq1-clause-one : goal.commit_kept-requires-then-job-eq1-clause-one
 commit_kept-requires-then-job-eq1-clause-one g c = cancelling c.args.sched.now c.args.job _ c.cancel-cancel.ensures.takes
+
+pub returns-then-eq-2 : goal.returns-then-eq-2
+returns-then-eq-2 g c = c.serving_adds_up.ensures.then _ _ _ c.commit_kept.ensures.serves c.commit_kept-then-job-eq1.ensures.serves
+
+pub returns-else-eq-2 : goal.returns-else-eq-2
+returns-else-eq-2 g c = c.serving_adds_up.ensures.then _ _ _ c.commit_kept.ensures.serves c.commit_kept-then-job-eq1.ensures.serves
