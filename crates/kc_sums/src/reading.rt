@@ -1,7 +1,8 @@
 //! A view of all accounts.
 
-ghost use Rattle.std.specs.Prelude.{◌≡◌, ◌≤◌, IfOk};
+ghost use Rattle.std.specs.Prelude.{◌≡◌, ◌≤◌, IfOk, Some};
 ghost use Rattle.kc_keep.specs.Only.{Serves};
+ghost use Rattle.kc_model.specs.declared.reply.Reply.TheVariants as reply;
 ghost use Rattle.kc_sums.specs.Sums.{IsBank, IsOfBank};
 ghost use Rattle.kc_sums.specs.Views.{SawTotal};
 
@@ -30,7 +31,14 @@ pub fn read_all<R: Wait>(rt: &R, store: &Store, caller: &mut Caller, bank: &Bank
         acc: accounts,
         act: AccAct::Total,
     };
-    match view_kept(rt, store, caller, bank, &total) {
+    number_of(view_kept(rt, store, caller, bank, &total))
+}
+
+// The number that was replied.
+fn number_of(said: Option<Reply>) -> io::Result<u32>
+    ensures { IfOk result (λ n. said ≡ Some (reply.Value n)) }
+{
+    match said {
         Some(Reply::Value(number)) => Ok(number),
         _ => Err(io::ErrorKind::Other.into()),
     }

@@ -69,7 +69,6 @@ fn view_and_finish<R: Wait>(
 }
 
 // Transfers so often from one account to another.
-#[tactic(auto, using(kc_keep::proofs::Serving::serves_then))]
 fn transfer_all<R: Wait>(
     rt: &R,
     store: &Store,
@@ -85,6 +84,7 @@ fn transfer_all<R: Wait>(
     requires to { to.0 < bank.now.accounts }
     ensures { Serves (IsOfBank bank.now) caller result }
 {
+    serving_adds_up(bank);
     for _ in 0..ROUNDS {
         commit_kept(rt, store, &mut caller, bank, &transfer(from, to, AMOUNT));
     }

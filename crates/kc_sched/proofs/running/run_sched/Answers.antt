@@ -1,4 +1,4 @@
-use Rattle.std.proofs.Common.{refl, rules}
+use Rattle.std.proofs.Common.{refl}
 use Rattle.kc_keep.proofs.Lasting.{lasting}
 use Rattle.kc_sched.proofs.Acts.{settled, two_settled}
 use Rattle.kc_sched.specs.Sched.{EachGoes, EndsStay}

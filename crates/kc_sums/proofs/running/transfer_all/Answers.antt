@@ -11,3 +11,6 @@ commit_kept-requires-clause-fit g c =
 
 pub commit_kept-requires-clause-one : goal.commit_kept-requires-clause-one
 commit_kept-requires-clause-one g c = inl (is_transfer c.args.bank.now c.transfer.result c.args.from c.args.to 7 c.transfer.ensures c.requires.from c.requires.to (omega arith) (omega arith))
+
+pub loop-preserved : goal.loop-preserved
+loop-preserved g c = c.serving_adds_up.ensures.then _ _ _ c.loop.invariant c.commit_kept.ensures.serves

@@ -14,6 +14,7 @@ ghost use Rattle.kc_store.specs.declared.values.Outcome.{Outcome};
 ghost use Rattle.kc_store.specs.declared.values.Try.{Try};
 ghost use Rattle.kc_store.specs.declared.verdict.Answered.{Answered};
 ghost use Rattle.kc_store.specs.declared.verdict.Verdict.{Verdict};
+ghost use Rattle.kc_store.specs.declared.viewing.Viewed.TheVariants as viewed;
 ghost use Rattle.kc_store.specs.declared.viewing.Viewed.{Viewed};
 ghost use Rattle.kc_xt.specs.Meaning.{Meaning, limited};
 
@@ -82,8 +83,7 @@ pub fn commit_kept<R: Wait, I: Invariant, T: Transact>(
     ensures so { (o : Outcome) × WaitsSo (limited (T.most act.now) (T.meaning act.now)) (T.end act.now) o caller.old caller.new × (result ≡ reply_in o) }
 {
     waited_of(invariant);
-    let outcome = commit_waiting(rt, store, caller, act);
-    reply_of(outcome)
+    commit_replied(rt, store, caller, act)
 }
 
 /// Views one of the invariant's meanings: its reply, or None where the view ended without one, or as a commit.
@@ -106,7 +106,14 @@ pub fn view_kept<R: Wait, I: Invariant, T: Transact>(
     let mut footprint = Footprint::new();
     let viewed = store.view_into(rt, caller, act, &mut footprint);
     caller.shows();
-    match viewed {
+    reply_viewed(viewed)
+}
+
+// The reply of a view that has no entry.
+fn reply_viewed(answer: Viewed) -> Option<Reply>
+    ensures { IfSome result (λ a. answer ≡ viewed.Done a) }
+{
+    match answer {
         Viewed::Done(reply) => Some(reply),
         _ => None,
     }
