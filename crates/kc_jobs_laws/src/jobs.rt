@@ -66,11 +66,7 @@ impl Jobs {
     }
 
     /// `submit_job`: of this job nothing was known, and now it waits.
-    pub fn submit(
-        &self,
-        line: Queue,
-        job: u32,
-    ) -> When<HashOp, Give<Unless<HashOp, QueueOp>>, Say>
+    pub fn submit(&self, line: Queue, job: u32) -> When<HashOp, Give<Unless<HashOp, QueueOp>>, Say>
         requires laid { AreJobsLaid self.now }
         requires line { queue_cells_end line ≤ self.now.ends.base.0 }
         ensures is { result ≡ submits_job self.now.states line job }
