@@ -129,6 +129,7 @@ pub fn commit_replied<R: Wait, T: Transact>(
     requires caller { caller.old.of ≡ store.now }
     requires fit { T.is_fit act.now }
     requires within { T.end act.now ≤ store.now.locations }
+    ensures of { caller.new.of ≡ store.now }
     ensures remembers { Remembers caller.old caller.new }
     ensures so { (o : Outcome) × WaitsSo (limited (T.most act.now) (T.meaning act.now)) (T.end act.now) o caller.old caller.new × (result ≡ reply_in o) }
 {
