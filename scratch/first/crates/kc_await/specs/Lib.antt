@@ -1,4 +1,0 @@
-pub mod Waiting
-pub mod Looks
-pub mod Adds
-pub mod Viewing

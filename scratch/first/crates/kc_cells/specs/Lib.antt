@@ -1,4 +1,0 @@
-pub mod OnePlace
-pub mod Mvar
-pub mod Promise
-pub mod Accumulator

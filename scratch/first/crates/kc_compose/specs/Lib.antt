@@ -1,6 +1,0 @@
-pub mod Sort
-pub mod Meaning
-pub mod OneOf
-pub mod Waits
-pub mod Leads
-pub mod Found

@@ -1,3 +1,0 @@
-pub mod Only
-pub mod Keeping
-pub mod Steps

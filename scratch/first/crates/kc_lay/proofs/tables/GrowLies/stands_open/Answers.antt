@@ -1,4 +1,0 @@
-use Rattle.kc_lay.proofs.tables.GrowLies.stands_open.Goals as goal
-
-pub returns : goal.returns
-returns c = c.opens_empty.ensures c.args.self.now

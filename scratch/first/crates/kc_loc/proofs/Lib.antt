@@ -1,3 +1,0 @@
-pub mod Acting
-pub mod LocLaw
-pub mod Values

@@ -1,5 +1,0 @@
-pub mod Nexts
-pub mod CommitValue
-pub mod CommitView
-pub mod Commits
-pub mod Halts

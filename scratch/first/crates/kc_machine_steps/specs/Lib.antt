@@ -1,5 +1,0 @@
-pub mod Lines
-pub mod Looks
-pub mod Passes
-pub mod Aids
-pub mod Swaps

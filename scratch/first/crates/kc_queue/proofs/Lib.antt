@@ -1,3 +1,0 @@
-pub mod QueueLaw
-pub mod Values
-pub mod Standing

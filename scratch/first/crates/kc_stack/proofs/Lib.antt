@@ -1,3 +1,0 @@
-pub mod StackLaw
-pub mod Values
-pub mod Standing

@@ -1,6 +1,0 @@
-pub mod Links
-pub mod Alike
-pub use Rattle.kc_table_moves.proofs.kc_machine_history as kc_machine_history
-pub use Rattle.kc_table_moves.proofs.kc_machine_traces as kc_machine_traces
-pub use Rattle.kc_table_moves.proofs.kc_machine_invariants as kc_machine_invariants
-pub use Rattle.kc_table_moves.proofs.kc_table_views as kc_table_views
