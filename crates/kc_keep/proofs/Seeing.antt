@@ -1,13 +1,22 @@
 -- What was read at a place of the history stands where the invariant holds.
 use Rattle.std.proofs.Common.{◌≡◌, ℕ, zero, suc, List, [], ◌∷◌, ◌++◌, take, drop, refl, sym, ap, subst, Contains, arith}
+use Rattle.std.specs.Prelude.{IfSome, Option, None, Some}
 use Rattle.std.proofs.lemmas.List.{take-append-drop}
-use Rattle.kc_keep.specs.Keeping.{HoldsThroughout, IsSeenWhere}
+use Rattle.kc_keep.proofs.Keeping.{says}
+use Rattle.kc_keep.specs.Keeping.{HoldsThroughout, IsSeenWhere, SawReply, SaysWhere}
 use Rattle.kc_model.specs.Legal.{IsLegal}
 use Rattle.kc_model.specs.Store.{Finds, Store, after}
 use Rattle.kc_model.specs.declared.footprint.Entry.{Entry}
 use Rattle.kc_model.specs.declared.footprint.Footprint.{Footprint}
 use Rattle.kc_store.specs.Knows.{none}
-use Rattle.kc_store.specs.Viewing.{FrontMakes}
+use Rattle.kc_model.specs.declared.reply.Reply.{Reply}
+use Rattle.kc_store.specs.Viewing.{FrontMakes, IsViewed}
+use Rattle.kc_store.specs.Backs.{ShowsItsSeat}
+use Rattle.kc_store.specs.Views.{CallerView}
+use Rattle.kc_store.specs.declared.viewing.Viewed.{Viewed}
+use Rattle.kc_store.specs.declared.viewing.Viewed.TheVariants as viewed
+use Rattle.kc_xt.specs.Commit.{run_on}
+use Rattle.kc_xt.specs.Meaning.{Meaning}
 use Rattle.kc_store.specs.kc_machine_traces.Histories.{made}
 
 legal_front : (n : ℕ) (es : List Entry) (s e : Store) → IsLegal s es e → IsLegal s (take n es) (made s (take n es))
@@ -64,3 +73,14 @@ entry_where holds s e es x throughout legal there =
       finds = found.1;
       there = throughout at.before (x ∷ at.behind) (made s at.before) at.is found.0;
     }
+
+-- ---- views
+
+pub saw_by : (m : Meaning) (v : Viewed) (c : CallerView) (f : Footprint) (d : CallerView) → IsViewed m v c f d → ShowsItsSeat c → ShowsItsSeat d → (r : Option Reply) → IfSome r (λ a. v ≡ viewed.Done a) → IfSome r (λ a. SawReply m a c d)
+saw_by m v c f d so began ended None e = e
+saw_by m v c f d so began ended (Some a) e =
+    let one = subst (λ (x : Viewed). IsViewed m x c f d) e so in
+    record { footprint = f; answers = one.0.0; stands = one.0.2; began = began; ended = ended }
+
+pub says_where : (holds : (ℕ → ℕ) → Type 0) (s : Store) (es known : List Entry) (m : Meaning) (a : Reply) (c d : CallerView) (saw : SawReply m a c d) → IsSeenWhere holds s es known saw.footprint → SaysWhere holds s es known m a
+says_where holds s es known m a c d saw seen = record { footprint = saw.footprint; seen = seen; says = says (run_on m seen.store).outcome a (saw.answers.run seen.store seen.finds) }

@@ -4,10 +4,14 @@ use Rattle.std.specs.Prelude.{All, IsPermutation}
 use Rattle.std.proofs.lemmas.List.Elements.{All-cons, All-nil}
 use Rattle.std.proofs.lemmas.List.Sorted.{IsPermutation-refl}
 use Rattle.kc_keep.specs.Only.{HasOnly, ServeFrom, Serves}
+use Rattle.kc_keep.proofs.Told.{both_added}
+use Rattle.kc_lay.specs.Placed.{OpensAsLaid}
+use Rattle.kc_store.proofs.Remembering.{remembers_on}
 use Rattle.kc_store.specs.Backs.{AreAllCallers}
-use Rattle.kc_store.specs.Views.{CallerView, StoreView, opened_caller}
+use Rattle.kc_store.specs.Knows.{OpensWith}
+use Rattle.kc_store.specs.Views.{CallerView, StoreView, opened_caller, store_opening}
 use Rattle.kc_store.specs.kc_table_moves.Views.{count_from}
-use Rattle.kc_xt.specs.Meaning.{Meaning}
+use Rattle.kc_xt.specs.Meaning.{Meaning, values}
 
 module _ (is_one : Meaning → Type 0) (z : StoreView) where
   abbrev numbers : List CallerView → List ℕ
@@ -35,3 +39,11 @@ module _ (is_one : Meaning → Type 0) (z : StoreView) where
 
   pub only_served : ((k : ℕ) (d : CallerView) → Serves is_one (opened_caller z k) d → HasOnly is_one d) → (ds : List CallerView) → ServeFrom is_one z 0 ds → All (HasOnly is_one) ds
   only_served has ds served = each (HasOnly is_one) has 0 ds served
+
+-- what one call served and then the next
+pub serves_then : (is_one : Meaning → Type 0) (c d e : CallerView) → Serves is_one c d → Serves is_one d e → Serves is_one c e
+serves_then is_one c d e first second = record { remembers = remembers_on c d e first.remembers second.remembers; only = both_added is_one c d e first.only second.only }
+
+-- a store that opened with these values opens as laid
+pub opens_so : (z : StoreView) (us vs versions : List ℕ) (k : ℕ) → us ≡ vs → OpensWith us versions k z → OpensAsLaid vs (values (store_opening z))
+opens_so z us vs versions k e so = subst (λ xs. OpensAsLaid xs (values (store_opening z))) e (record { cells = λ l lt. ap (λ (x : _). x.value) (so.cells l lt) })

@@ -5,7 +5,12 @@ use Rattle.kc_model.specs.Store.{Finds, Store}
 use Rattle.kc_model.specs.declared.footprint.Entry.{Entry}
 use Rattle.kc_model.specs.declared.footprint.Footprint.{Footprint}
 use Rattle.kc_model.specs.declared.reply.Reply.{Reply}
+use Rattle.kc_model.specs.declared.reply.Answer.TheVariants as answer
+use Rattle.kc_store.specs.Backs.{ShowsItsSeat}
 use Rattle.kc_store.specs.Knows.{IsWithin}
+use Rattle.kc_store.specs.Viewing.{StandsAtOnce}
+use Rattle.kc_store.specs.Views.{CallerView}
+use Rattle.kc_xt.specs.Commit.{Answers, run_on}
 use Rattle.kc_xt.specs.Meaning.{Meaning, map_after, replied, values}
 
 -- a meaning that replies keeps it, under whatever limit and whatever was touched before
@@ -26,3 +31,17 @@ pub record IsSeenWhere (holds : (ℕ → ℕ) → Type 0) (s : Store) (es known 
   pub legal : IsLegal s before store
   pub finds : Finds f store
   pub there : holds (values store)
+
+-- a view of what has this meaning replied so, of reads that stood at one moment since c and before d
+pub record SawReply (m : Meaning) (a : Reply) (c d : CallerView) : Type 0 where
+  pub footprint : Footprint
+  pub answers : Answers m (answer.Reply a) footprint
+  pub stands : StandsAtOnce footprint c d
+  pub began : ShowsItsSeat c
+  pub ended : ShowsItsSeat d
+
+-- behind a front of the list, which has all that was known, it holds, and what has this meaning replies so
+pub record SaysWhere (holds : (ℕ → ℕ) → Type 0) (s : Store) (es known : List Entry) (m : Meaning) (a : Reply) : Type 0 where
+  pub footprint : Footprint
+  pub seen : IsSeenWhere holds s es known footprint
+  pub says : (run_on m seen.store).outcome ≡ replied a

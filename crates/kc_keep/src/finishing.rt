@@ -1,18 +1,23 @@
 //! What is left when all callers came back, and what holds of it.
 
-ghost use Rattle.std.specs.Prelude.{◌≡◌, All, map};
-ghost use Rattle.kc_keep.specs.Keeping.{HoldsThroughout};
-ghost use Rattle.kc_keep.specs.Only.{HasOnly};
+ghost use Rattle.std.specs.Prelude.{◌≡◌, All, Contains, map};
+ghost use Rattle.kc_keep.specs.Keeping.{HoldsThroughout, SawReply, SaysWhere};
+ghost use Rattle.kc_keep.specs.Only.{HasOnly, ServeFrom};
 ghost use Rattle.kc_keep.specs.Steps.{IsTransitive, LastsThroughout, StepsThroughout};
+ghost use Rattle.kc_lay.specs.Placed.{HoldsAtOpening, OpensAsLaid};
+ghost use Rattle.kc_model.specs.Legal.{IsLegal};
 ghost use Rattle.kc_model.specs.Footprint.{IsBelow};
-ghost use Rattle.kc_store.specs.Backs.{AreAllCallers};
-ghost use Rattle.kc_store.specs.Knows.{IsHistory};
+ghost use Rattle.kc_model.specs.declared.reply.Reply.{Reply};
+ghost use Rattle.kc_store.specs.Backs.{AreAllCallers, ShowsItsSeat};
+ghost use Rattle.kc_store.specs.Knows.{IsHistory, Remembers};
 ghost use Rattle.kc_store.specs.Views.{CallerView, last, past_view, store_opening};
 ghost use Rattle.kc_store.specs.kc_table_moves.Views.{IsPast};
-ghost use Rattle.kc_xt.specs.Meaning.{values};
+ghost use Rattle.kc_xt.specs.Meaning.{Meaning, values};
 
 use crate::invariant::{Invariant, Stepping};
-use crate::laws::{holds_throughout, steps_throughout};
+use crate::laws::{holds_throughout, steps_throughout, views_see_it_hold};
+use crate::telling::serving_adds_up;
+use kc_lay::Layout;
 use kc_store::{Caller, Past, Store};
 
 /// All callers come back, whose own entries are all of the invariant's meanings, and the one history shows: the invariant holds
@@ -27,8 +32,10 @@ pub fn finish_kept<I: Invariant>(invariant: &I, store: Store, callers: Vec<Calle
     ensures shown { result ≡ past_view result.past }
     ensures throughout { HoldsThroughout (I.holds invariant.now) (store_opening store) result.history }
     ensures holds { I.holds invariant.now (values (last result)) }
+    ensures views { (m : Meaning) (a : Reply) (c d e : CallerView) → SawReply m a c d → Remembers d e → ShowsItsSeat e → Contains callers.items e → SaysWhere (I.holds invariant.now) (store_opening store) result.history c.known m a }
 {
     holds_throughout(invariant);
+    views_see_it_hold(invariant);
     store.finish(callers)
 }
 
@@ -48,4 +55,23 @@ pub fn finish_stepped<S: Stepping>(stepping: &S, store: Store, callers: Vec<Call
 {
     steps_throughout(stepping);
     finish_kept(stepping, store, callers)
+}
+
+/// Likewise where all callers served from the opening on, in their order, and the store opened as laid.
+pub fn finish_served<S: Stepping>(
+    stepping: &S,
+    layout: &Layout,
+    store: Store,
+    callers: Vec<Caller>,
+) -> Past
+    requires served { ServeFrom (S.is_one stepping.now) store 0 callers.items }
+    requires laid { OpensAsLaid layout.now (values (store_opening store)) }
+    requires opens { HoldsAtOpening (S.holds stepping.now) layout.now }
+    ensures history { IsHistory store callers.items result }
+    ensures legal { IsLegal (store_opening store) result.history (last result) }
+    ensures throughout { HoldsThroughout (S.holds stepping.now) (store_opening store) result.history }
+    ensures steps { StepsThroughout (S.steps stepping.now) (store_opening store) result.history }
+{
+    serving_adds_up(stepping);
+    finish_stepped(stepping, store, callers)
 }

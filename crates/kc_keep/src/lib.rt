@@ -10,9 +10,14 @@
 mod finishing;
 mod invariant;
 mod laws;
+mod opening;
 mod telling;
 
-pub use finishing::{finish_kept, finish_stepped};
+pub use finishing::{finish_kept, finish_served, finish_stepped};
 pub use invariant::{Invariant, Stepping};
 pub use laws::{holds_throughout, steps_throughout, views_see_it_hold};
-pub use telling::{commit_kept, commits_add_up, serving_adds_up, told_of, viewed_of, waited_of};
+pub use opening::{both_callers, four_callers, open_for_four, open_for_two};
+pub use telling::{
+    commit_kept, commit_replied, commits_add_up, serving_adds_up, told_of, view_kept, viewed_of,
+    waited_of,
+};

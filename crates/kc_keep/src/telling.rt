@@ -1,25 +1,27 @@
 //! From the answers of calls to what a thread may say of its own entries. The laws do nothing: the contract is the law.
 
-ghost use Rattle.std.specs.Prelude.{◌≡◌, ◌≤◌, ℕ, All, List};
+ghost use Rattle.std.specs.Prelude.{◌≡◌, ◌≤◌, ℕ, All, IfSome, List};
 ghost use Rattle.kc_await.specs.Adds.{IsToldAtLast, WaitsSo};
 ghost use Rattle.kc_await.specs.Viewing.{IsViewedAtLast};
+ghost use Rattle.kc_keep.specs.Keeping.{SawReply};
 ghost use Rattle.kc_keep.specs.Only.{CommitsOnly, HasOnly, ServeFrom, Serves, reply_in};
 ghost use Rattle.kc_model.specs.declared.footprint.Footprint.{Footprint};
 ghost use Rattle.kc_store.specs.Backs.{AreAllCallers};
-ghost use Rattle.kc_store.specs.Knows.{CommitsSo, IsTold, OnlyLearns, TriesSo};
+ghost use Rattle.kc_store.specs.Knows.{CommitsSo, IsTold, OnlyLearns, Remembers, TriesSo};
 ghost use Rattle.kc_store.specs.Viewing.{IsViewed};
 ghost use Rattle.kc_store.specs.Views.{CallerView, StoreView, opened_caller};
 ghost use Rattle.kc_store.specs.declared.values.Outcome.{Outcome};
 ghost use Rattle.kc_store.specs.declared.values.Try.{Try};
 ghost use Rattle.kc_store.specs.declared.verdict.Answered.{Answered};
 ghost use Rattle.kc_store.specs.declared.verdict.Verdict.{Verdict};
+ghost use Rattle.kc_store.specs.declared.viewing.Viewed.TheVariants as viewed;
 ghost use Rattle.kc_store.specs.declared.viewing.Viewed.{Viewed};
 ghost use Rattle.kc_xt.specs.Meaning.{Meaning, limited};
 
 use crate::invariant::Invariant;
 use kc_await::commit_waiting;
-use kc_model::Reply;
-use kc_store::{Caller, Outcome, Store, what_is_known_stays_known};
+use kc_model::{Footprint, Reply};
+use kc_store::{Caller, Outcome, Store, Viewed, what_is_known_stays_known};
 use kc_xt::Transact;
 use std::sync::Wait;
 
@@ -81,6 +83,56 @@ pub fn commit_kept<R: Wait, I: Invariant, T: Transact>(
     ensures so { (o : Outcome) × WaitsSo (limited (T.most act.now) (T.meaning act.now)) (T.end act.now) o caller.old caller.new × (result ≡ reply_in o) }
 {
     waited_of(invariant);
+    commit_replied(rt, store, caller, act)
+}
+
+/// Views one of the invariant's meanings: its reply, or None where the view ended without one, or as a commit.
+pub fn view_kept<R: Wait, I: Invariant, T: Transact>(
+    rt: &R,
+    store: &Store,
+    caller: &mut Caller,
+    invariant: &I,
+    act: &T,
+) -> Option<Reply>
+    requires caller { caller.old.of ≡ store.now }
+    requires fit { T.is_fit act.now }
+    requires within { T.end act.now ≤ store.now.locations }
+    requires one { I.is_one invariant.now (T.meaning act.now) }
+    ensures serves { Serves (I.is_one invariant.now) caller.old caller.new }
+    ensures saw { IfSome result (λ a. SawReply (limited (T.most act.now) (T.meaning act.now)) a caller.old caller.new) }
+{
+    viewed_of(invariant);
+    caller.shows();
+    let mut footprint = Footprint::new();
+    let viewed = store.view_into(rt, caller, act, &mut footprint);
+    caller.shows();
+    reply_viewed(viewed)
+}
+
+// The reply of a view that has no entry.
+fn reply_viewed(answer: Viewed) -> Option<Reply>
+    ensures { IfSome result (λ a. answer ≡ viewed.Done a) }
+{
+    match answer {
+        Viewed::Done(reply) => Some(reply),
+        _ => None,
+    }
+}
+
+/// Commits, where it would wait as soon as it needn't: its reply, or None where it is too large or worn.
+pub fn commit_replied<R: Wait, T: Transact>(
+    rt: &R,
+    store: &Store,
+    caller: &mut Caller,
+    act: &T,
+) -> Option<Reply>
+    requires caller { caller.old.of ≡ store.now }
+    requires fit { T.is_fit act.now }
+    requires within { T.end act.now ≤ store.now.locations }
+    ensures of { caller.new.of ≡ store.now }
+    ensures remembers { Remembers caller.old caller.new }
+    ensures so { (o : Outcome) × WaitsSo (limited (T.most act.now) (T.meaning act.now)) (T.end act.now) o caller.old caller.new × (result ≡ reply_in o) }
+{
     let outcome = commit_waiting(rt, store, caller, act);
     reply_of(outcome)
 }

@@ -1,3 +1,1 @@
-pub mod Parts
 pub mod Acts
-pub mod Opened

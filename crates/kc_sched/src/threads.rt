@@ -2,11 +2,9 @@
 
 ghost use Rattle.std.specs.Prelude.{◌≡◌, ◌<◌};
 ghost use Rattle.kc_keep.specs.Only.{Serves};
-ghost use Rattle.kc_sched.specs.Jobs.{GoesSo, HasSched};
+ghost use Rattle.kc_sched.specs.Sched.{GoesSo, HasSched};
 
 use crate::sched::{JOBS, Sched};
-use kc_cells::{PromiseAct, PromiseOp};
-use kc_jobs::{cancel_job, end_job, release_job, start_job, submit_job};
 use kc_keep::{commit_kept, serving_adds_up};
 use kc_model::Reply;
 use kc_store::{Caller, Store};
@@ -46,10 +44,7 @@ pub fn ask<R: Wait>(rt: &R, store: &Store, mut client: Caller, sched: &Sched) ->
         submit(rt, store, &mut client, sched, job, &mut tally);
     }
     for job in 0..JOBS {
-        let end = PromiseOp {
-            promise: sched.end_of(job),
-            act: PromiseAct::Await,
-        };
+        let end = sched.jobs.await_end(job);
         if let Some(Reply::Value(result)) = commit_kept(rt, store, &mut client, sched, &end) {
             let full = if result == 0 { result_of(job) } else { result };
             tally.told = tally.told.wrapping_add(1);
@@ -73,12 +68,12 @@ fn submit<R: Wait>(
     ensures { Serves (GoesSo sched.now) client.old client.new }
 {
     serving_adds_up(sched);
-    let enter = submit_job(sched.states, sched.line, job);
+    let enter = sched.jobs.submit(sched.line, job);
     if commit_kept(rt, store, client, sched, &enter) == Some(Reply::Unit) {
         tally.submitted = tally.submitted.wrapping_add(1);
     }
     if job % 2 == 1 {
-        let cancel = cancel_job(sched.states, sched.end_of(job), job);
+        let cancel = sched.jobs.cancel(job);
         if commit_kept(rt, store, client, sched, &cancel) == Some(Reply::Unit) {
             tally.settled = tally.settled.wrapping_add(1);
         }
@@ -92,7 +87,7 @@ pub fn tick<R: Wait>(rt: &R, store: &Store, mut clock: Caller, sched: &Sched) ->
     ensures { Serves (GoesSo sched.now) clock result }
 {
     serving_adds_up(sched);
-    let release = release_job(sched.line, sched.ready);
+    let release = sched.jobs.release(sched.line, sched.ready);
     for _ in 0..JOBS {
         commit_kept(rt, store, &mut clock, sched, &release);
     }
@@ -119,10 +114,10 @@ fn one_job<R: Wait>(rt: &R, store: &Store, worker: &mut Caller, sched: &Sched, t
     ensures { Serves (GoesSo sched.now) worker.old worker.new }
 {
     serving_adds_up(sched);
-    let start = start_job(sched.ready, sched.states);
+    let start = sched.jobs.start(sched.ready);
     if let Some(Reply::Value(job)) = commit_kept(rt, store, worker, sched, &start) {
         if job < JOBS {
-            let end = end_job(sched.states, sched.end_of(job), job, result_of(job));
+            let end = sched.jobs.end(job, result_of(job));
             if commit_kept(rt, store, worker, sched, &end) == Some(Reply::Unit) {
                 tally.settled = tally.settled.wrapping_add(1);
             }

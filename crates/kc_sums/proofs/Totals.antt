@@ -4,13 +4,10 @@ use Rattle.kc_cells.proofs.Sums.{sum_more, sums_plain}
 use Rattle.kc_cells.specs.Accumulator.{acc_meaning, acc_program, cells_sum}
 use Rattle.kc_cells.specs.declared.accumulator.AccAct.TheVariants.{Total}
 use Rattle.kc_cells.specs.declared.accumulator.Accumulator.{Accumulator}
-use Rattle.kc_keep.proofs.Keeping.{says}
-use Rattle.kc_keep.specs.Keeping.{IsKeptBy, IsSeenWhere}
-use Rattle.kc_model.specs.Store.{Finds, Store}
+use Rattle.kc_keep.specs.Keeping.{IsKeptBy, SaysWhere}
+use Rattle.kc_model.specs.Store.{Store}
 use Rattle.kc_model.specs.declared.footprint.Entry.{Entry}
-use Rattle.kc_model.specs.declared.footprint.Footprint.{Footprint}
 use Rattle.kc_model.specs.declared.footprint.TheConstants.{MOST}
-use Rattle.kc_model.specs.declared.reply.Answer.TheVariants as answer
 use Rattle.kc_model.specs.declared.reply.Reply.{Reply}
 use Rattle.kc_model.specs.declared.reply.Reply.TheVariants as reply
 use Rattle.kc_store.specs.Views.{CallerView}
@@ -19,7 +16,6 @@ use Rattle.kc_sums.specs.Sums.{HasTotal, IsOfBank, IsReading, accounts_sum}
 use Rattle.kc_sums.specs.Views.{SawTotal}
 use Rattle.kc_sums.specs.declared.bank.Bank.{Bank}
 use Rattle.kc_xt.proofs.PlainRuns.{plain-meaning}
-use Rattle.kc_xt.specs.Commit.{Answers, run_on}
 use Rattle.kc_xt.specs.Meaning.{Meaning, lesser, limited, map_after, replied, values}
 use Rattle.kc_xt.specs.Program.{Plain, replies, wrapped}
 
@@ -56,14 +52,13 @@ pub each_keeps : (b : Bank) (m : Meaning) → IsOfBank b m → IsKeptBy (HasTota
 each_keeps b m (inl t) = transfer_is_kept b m t
 each_keeps b m (inr r) = reading_is_kept b m r
 
--- what it replies on a store where they have what they opened with
-read_exact : (b : Bank) (sum : ℕ) (p : Meaning) (f : Footprint) (t : Store) → IsReading b p → Answers (limited MOST p) (answer.Reply (reply.Value sum)) f → Finds f t → HasTotal b (values t) → sum ≡ b.accounts * b.each
-read_exact b sum p f t r y finds h =
-    let said = says (run_on (limited MOST p) t).outcome (reply.Value sum) (y.run t finds) in
-    let read = read_comes r.all (lesser MOST MOST) (values t) [] (reply.Value sum) (subst (λ (q : Meaning). (q (lesser MOST MOST) (values t) []).outcome ≡ replied (reply.Value sum)) r.is said) in
+-- what it replied, where they have what they opened with
+pub view_exact : (b : Bank) (sum : ℕ) (c d : CallerView) (s : Store) (es : List Entry) (saw : SawTotal b sum c d) → SaysWhere (HasTotal b) s es c.known (limited MOST saw.meaning) (reply.Value sum) → sum ≡ b.accounts * b.each
+view_exact b sum c d s es saw at =
+    let r = saw.reading in
+    let t = at.seen.store in
+    let h = at.seen.there in
+    let read = read_comes r.all (lesser MOST MOST) (values t) [] (reply.Value sum) (subst (λ (q : Meaning). (q (lesser MOST MOST) (values t) []).outcome ≡ replied (reply.Value sum)) r.is at.says) in
     let whole : cells_sum (values t) r.all.base.0 r.all.cells ≡ b.accounts * b.each =
     ap (λ l. cells_sum (values t) l r.all.cells) r.base ∙ ap (cells_sum (values t) 0) r.cells ∙ sym (sum_is_cells b.accounts (values t)) ∙ h.1 in
     same_number _ _ read.0 ∙ ap wrapped whole ∙ small (b.accounts * b.each) h.0
-
-pub view_exact : (b : Bank) (sum : ℕ) (c d : CallerView) (s : Store) (es : List Entry) (saw : SawTotal b sum c d) → IsSeenWhere (HasTotal b) s es c.known saw.footprint → sum ≡ b.accounts * b.each
-view_exact b sum c d s es saw seen = read_exact b sum saw.meaning saw.footprint seen.store saw.reading saw.answers seen.finds seen.there

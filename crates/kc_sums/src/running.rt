@@ -1,8 +1,8 @@
 //! Two threads that transfer, a view of what they left, and the history.
 
 ghost use Rattle.std.specs.Prelude.{◌≡◌, ◌≤◌, ◌<◌, ◌*◌, IfOk, replicate};
-ghost use Rattle.kc_keep.specs.Only.{CommitsOnly};
-ghost use Rattle.kc_store.specs.Knows.{OpensWith, Remembers};
+ghost use Rattle.kc_keep.specs.Only.{Serves};
+ghost use Rattle.kc_store.specs.Knows.{OpensWith};
 ghost use Rattle.kc_store.specs.Views.{opened_caller};
 ghost use Rattle.kc_sums.specs.Sums.{IsBank, IsOfBank};
 ghost use Rattle.kc_sums.specs.Views.{HasTotalThroughout};
@@ -10,8 +10,7 @@ ghost use Rattle.kc_sums.specs.Views.{HasTotalThroughout};
 use crate::bank::Bank;
 use crate::reading::read_all;
 use crate::transferring::transfer;
-use kc_await::commit_waiting;
-use kc_keep::{commits_add_up, finish_kept, views_see_it_hold, waited_of};
+use kc_keep::{both_callers, commit_kept, finish_kept, serving_adds_up};
 use kc_model::Loc;
 use kc_store::{Caller, Past, Store, what_is_known_stays_known};
 use std::alloc::Global;
@@ -57,20 +56,15 @@ fn view_and_finish<R: Wait>(
 ) -> io::Result<(Past, u32)>
     requires bank { IsBank bank.now }
     requires opens { OpensWith (replicate bank.now.accounts bank.now.each) (replicate bank.now.accounts 0) 2 store }
-    requires first { Remembers (opened_caller store 0) first }
-    requires second { Remembers (opened_caller store 1) second }
-    requires first_only { CommitsOnly (IsOfBank bank.now) (opened_caller store 0) first }
-    requires second_only { CommitsOnly (IsOfBank bank.now) (opened_caller store 1) second }
+    requires first { Serves (IsOfBank bank.now) (opened_caller store 0) first }
+    requires second { Serves (IsOfBank bank.now) (opened_caller store 1) second }
     ensures throughout { IfOk result (λ t. HasTotalThroughout bank.now t.0) }
     ensures sum { IfOk result (λ t. t.1 ≡ bank.now.accounts * bank.now.each) }
 {
-    commits_add_up(bank);
-    views_see_it_hold(bank);
+    serving_adds_up(bank);
     what_is_known_stays_known();
     let sum = read_all(rt, &store, &mut first, bank)?;
-    let mut callers = Vec::new(alloc);
-    callers.push(first)?;
-    callers.push(second)?;
+    let callers = both_callers(alloc, first, second)?;
     Ok((finish_kept(bank, store, callers), sum))
 }
 
@@ -88,14 +82,11 @@ fn transfer_all<R: Wait>(
     requires size { bank.now.accounts ≤ store.now.locations }
     requires from { from.0 < bank.now.accounts }
     requires to { to.0 < bank.now.accounts }
-    ensures remembers { Remembers caller result }
-    ensures only { CommitsOnly (IsOfBank bank.now) caller result }
+    ensures { Serves (IsOfBank bank.now) caller result }
 {
-    what_is_known_stays_known();
-    commits_add_up(bank);
-    waited_of(bank);
+    serving_adds_up(bank);
     for _ in 0..ROUNDS {
-        commit_waiting(rt, store, &mut caller, &transfer(from, to, AMOUNT));
+        commit_kept(rt, store, &mut caller, bank, &transfer(from, to, AMOUNT));
     }
     caller
 }

@@ -7,7 +7,6 @@ use kc_cache::Cache;
 use kc_lay::Layout;
 use kc_model::{Loc, PlainStore};
 use kc_queue::Queue;
-use kc_store::{Caller, Store};
 use std::alloc::{AllocError, Global};
 use std::io;
 
@@ -50,19 +49,4 @@ pub fn open(alloc: Global, layout: &Layout) -> io::Result<PlainStore>
     ensures { IfOk result (λ store. length store ≡ length layout.now) }
 {
     PlainStore::open(alloc, layout.values()).map_err(|_| io::ErrorKind::OutOfMemory.into())
-}
-
-/// The same as a store that threads share without a lock, for two callers.
-pub fn share(alloc: Global, layout: &Layout) -> io::Result<(Store, Caller, Caller)>
-    ensures locations { IfOk result (λ t. t.0.locations ≡ length layout.now) }
-    ensures first { IfOk result (λ t. t.1.of ≡ t.0) }
-    ensures second { IfOk result (λ t. t.2.of ≡ t.0) }
-{
-    let Ok((store, mut callers)) = Store::open(alloc, layout.values(), 2) else {
-        return Err(io::ErrorKind::OutOfMemory.into());
-    };
-    let (Some(second), Some(first)) = (callers.pop(), callers.pop()) else {
-        unreachable!("a store has as many callers as it was opened for");
-    };
-    Ok((store, first, second))
 }

@@ -1,19 +1,17 @@
 //! The same server on a store that threads share without a lock: a worker, and a client.
 
-ghost use Rattle.std.specs.Prelude.{◌≡◌, ◌≤◌, length};
+ghost use Rattle.std.specs.Prelude.{◌≡◌, length};
 ghost use Rattle.kc_uses.specs.Serving.{HasServer};
 
 use crate::finish::finish_job;
-use crate::server::{Server, share};
+use crate::server::Server;
 use crate::stop::finish_or_stop;
-use kc_await::commit_waiting;
 use kc_cache::{CacheAct, CacheOp};
+use kc_keep::{commit_replied, open_for_two};
 use kc_lay::Layout;
 use kc_loc::LocOp;
-use kc_model::Reply;
 use kc_queue::{QueueAct, QueueOp};
-use kc_store::{Caller, Outcome, Store};
-use kc_xt::Transact;
+use kc_store::{Caller, Store};
 use std::alloc::Global;
 use std::io::Print;
 use std::sync::Wait;
@@ -33,7 +31,7 @@ pub fn serve<R: Print + Threads + Wait + Sync>(
 ) -> io::Result<()>
     requires { HasServer server.now (length layout.now) }
 {
-    let (store, worker, client) = share(alloc, layout)?;
+    let (store, worker, client) = open_for_two(alloc, layout)?;
     let shared = &store;
     let (mut worker, mut client) = thread::join(
         rt,
@@ -46,14 +44,14 @@ pub fn serve<R: Print + Threads + Wait + Sync>(
         cache: server.results,
         act: CacheAct::CGet(JOBS),
     };
-    let reply = run(rt, &store, &mut client, &last);
+    let reply = commit_replied(rt, &store, &mut client, &last);
     println!(rt; "the result of job {JOBS}, by another thread: {reply:?}")?;
     let (mut worker, _client) = thread::join(
         rt,
         move || wait_for_more(rt, shared, worker, server),
         move || close(rt, shared, client, server),
     );
-    let reply = run(rt, &store, &mut worker, &finish_or_stop(server));
+    let reply = commit_replied(rt, &store, &mut worker, &finish_or_stop(server));
     println!(rt; "once the server is closed: {reply:?}")
 }
 
@@ -63,7 +61,7 @@ fn wait_for_more<R: Wait>(rt: &R, store: &Store, mut worker: Caller, server: &Se
     requires server { HasServer server.now store.now.locations }
     ensures { result.of ≡ store.now }
 {
-    run(rt, store, &mut worker, &finish_or_stop(server));
+    commit_replied(rt, store, &mut worker, &finish_or_stop(server));
     worker
 }
 
@@ -72,7 +70,7 @@ fn close<R: Wait>(rt: &R, store: &Store, mut client: Caller, server: &Server) ->
     requires server { HasServer server.now store.now.locations }
     ensures { result.of ≡ store.now }
 {
-    run(rt, store, &mut client, &LocOp::Set(server.closed, 1));
+    commit_replied(rt, store, &mut client, &LocOp::Set(server.closed, 1));
     client
 }
 
@@ -83,7 +81,7 @@ fn work<R: Wait>(rt: &R, store: &Store, mut worker: Caller, server: &Server) -> 
     ensures { result.of ≡ store.now }
 {
     for _ in 0..JOBS {
-        run(rt, store, &mut worker, &finish_job(server));
+        commit_replied(rt, store, &mut worker, &finish_job(server));
     }
     worker
 }
@@ -98,28 +96,7 @@ fn queue_jobs<R: Wait>(rt: &R, store: &Store, mut client: Caller, server: &Serve
             queue: server.jobs,
             act: QueueAct::Enq(job),
         };
-        run(rt, store, &mut client, &queue);
+        commit_replied(rt, store, &mut client, &queue);
     }
     client
-}
-
-// Commits a transaction, where it would wait as soon as it needn't: its reply.
-fn run<R: Wait, T: Transact>(
-    rt: &R,
-    store: &Store,
-    caller: &mut Caller,
-    transaction: &T,
-) -> Option<Reply>
-    requires caller { caller.old.of ≡ store.now }
-    requires fit { T.is_fit transaction.now }
-    requires within { T.end transaction.now ≤ store.now.locations }
-    ensures { caller.new.of ≡ store.now }
-{
-    match commit_waiting(rt, store, caller, transaction) {
-        Outcome::Done {
-            reply,
-            footprint: _,
-        } => Some(reply),
-        _ => None,
-    }
 }

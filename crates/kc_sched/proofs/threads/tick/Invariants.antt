@@ -1,5 +1,5 @@
 use Rattle.kc_keep.specs.Only.{Serves}
-use Rattle.kc_sched.specs.Jobs.{GoesSo}
+use Rattle.kc_sched.specs.Sched.{GoesSo}
 use Rattle.kc_sched.proofs.threads.tick.Given as goal
 
 abbrev pub invariant-loop : goal.invariant-loop

@@ -1,4 +1,4 @@
--- What operations on the scheduler's parts make of one of its jobs.
+-- What operations on the jobs' parts, and on a queue before them, make of one of the jobs.
 use Rattle.std.proofs.Common.{◌≡◌, ◌≢◌, ◌⊎◌, ℕ, ◌+◌, ◌<◌, ◌≤◌, Bool, true, false, cond, Some, None, inl, inr, refl, sym, ap, ap₂, subst, ◌∙◌, arith}
 use Rattle.std.specs.Prelude.{◌==◌}
 use Rattle.std.proofs.lemmas.Bool.Decides.{nat_tests}
@@ -22,16 +22,11 @@ use Rattle.kc_model.specs.declared.reply.Reply.{Reply}
 use Rattle.kc_queue.proofs.QueueLaw.{queue_stays}
 use Rattle.kc_queue.specs.Meaning.{queue_cells_end, queue_meaning, queue_program}
 use Rattle.kc_queue.specs.declared.operation.QueueOp.{QueueOp}
-use Rattle.kc_sched.specs.Jobs.{HasParts, IsSchedLaid, Job, end_cell, job_at, job_of}
-use Rattle.kc_sched.specs.declared.sched.Sched.{Sched}
-use Rattle.kc_sched.specs.declared.sched.TheConstants.{JOBS}
+use Rattle.kc_jobs_laws.specs.Taken.{AreJobCells, AreJobsLaid, IsEndOfJob, Job, end_cell, job_at, job_of}
+use Rattle.kc_jobs_laws.specs.declared.jobs.Jobs.{Jobs}
 use Rattle.kc_xt.specs.Meaning.{Meaning, replied}
 use Rattle.kc_xt.specs.Program.{replies}
 use Rattle.kc_xt.specs.Structure.{SameCells, WellFormed}
-
--- this promise is the end of that job
-abbrev pub IsEndOf : Sched → ℕ → Promise → Type 0
-IsEndOf s job end = (job < JOBS) × (end.base.0 ≡ end_cell s job)
 
 -- a job that is asked for, if it is this one
 abbrev pub Found : Bool → Job → Reply → Job → Type 0
@@ -48,7 +43,7 @@ Told this act j a k = k ≡ cond this (job_of j.state (promise_value act j.told)
 abbrev pub Stays : Job → Reply → Job → Type 0
 Stays j a k = k ≡ j
 
-module _ (s : Sched) (laid : IsSchedLaid s) where
+module _ (s : Jobs) (laid : AreJobsLaid s) where
   abbrev table : ℕ
   table = s.states.base.0
 
@@ -58,25 +53,25 @@ module _ (s : Sched) (laid : IsSchedLaid s) where
   end_stays : (job : ℕ) (m w : ℕ → ℕ) → SameCells (end_cell s job) (end_cell s job + place_cells) m w → WellFormed (PlaceHolds (end_cell s job)) m → WellFormed (PlaceHolds (end_cell s job)) w × (value_held (end_cell s job) w ≡ value_held (end_cell s job) m)
   end_stays job m w same (c, held) = let then = place_own (end_cell s job) m w c same held in ((c, then), holds_held (end_cell s job) w c then ∙ sym (holds_held (end_cell s job) m c held))
 
-  off_ends : (m w : ℕ → ℕ) → OnlyWithin table (hash_cells_end s.states) m w → (job : ℕ) → job < JOBS → SameCells (end_cell s job) (end_cell s job + place_cells) m w
+  off_ends : (m w : ℕ → ℕ) → OnlyWithin table (hash_cells_end s.states) m w → (job : ℕ) → job < s.many → SameCells (end_cell s job) (end_cell s job + place_cells) m w
   off_ends m w out job lt l ge below = sym (out l (λ c le under q. omega (arith, lt, below, le, q, laid.states)))
 
-  module _ (i : ℕ) (lt : i < JOBS) where
+  module _ (i : ℕ) (lt : i < s.many) where
     -- it holds between what is shown of the job
     abbrev pub On : (Job → Reply → Job → Type 0) → (ℕ → ℕ) → Reply → (ℕ → ℕ) → Type 0
     On so m a w = so (job_at s m i) a (job_at s w i)
 
-    by_table : (R : (ℕ → ℕ) → Reply → (ℕ → ℕ) → Type 0) (so : Job → Reply → Job → Type 0) (p : Meaning) → LeadsTo (WellFormed (HashStandsFor s.states)) (λ m a w. R m a w × OnlyWithin table (hash_cells_end s.states) m w) p → ((m w : ℕ → ℕ) (a : Reply) → R m a w → value_held (end_cell s i) w ≡ value_held (end_cell s i) m → On so m a w) → LeadsTo (HasParts s) (On so) p
-    by_table R so p h is = leads_more (HasParts s) (λ m a w. R m a w × OnlyWithin table (hash_cells_end s.states) m w) (On so) p
-        (leads_also (WellFormed (HashStandsFor s.states)) (HasParts s) (λ m a w. R m a w × OnlyWithin table (hash_cells_end s.states) m w) p h (λ m parts. parts.0) (λ m w a parts then r. (then, λ job below. (end_stays job m w (off_ends m w r.1 job below) (parts.1 job below)).0)))
+    by_table : (R : (ℕ → ℕ) → Reply → (ℕ → ℕ) → Type 0) (so : Job → Reply → Job → Type 0) (p : Meaning) → LeadsTo (WellFormed (HashStandsFor s.states)) (λ m a w. R m a w × OnlyWithin table (hash_cells_end s.states) m w) p → ((m w : ℕ → ℕ) (a : Reply) → R m a w → value_held (end_cell s i) w ≡ value_held (end_cell s i) m → On so m a w) → LeadsTo (AreJobCells s) (On so) p
+    by_table R so p h is = leads_more (AreJobCells s) (λ m a w. R m a w × OnlyWithin table (hash_cells_end s.states) m w) (On so) p
+        (leads_also (WellFormed (HashStandsFor s.states)) (AreJobCells s) (λ m a w. R m a w × OnlyWithin table (hash_cells_end s.states) m w) p h (λ m parts. parts.0) (λ m w a parts then r. (then, λ job below. (end_stays job m w (off_ends m w r.1 job below) (parts.1 job below)).0)))
         (λ m w a parts r. is m w a r.0 (end_stays i m w (off_ends m w r.1 i lt) (parts.1 i lt)).1)
 
-    pub finds : (job : ℕ) → (let o : HashOp = record { hash = s.states; act = find job } in LeadsTo (HasParts s) (On (Found (i == job))) (hash_meaning o))
+    pub finds : (job : ℕ) → (let o : HashOp = record { hash = s.states; act = find job } in LeadsTo (AreJobCells s) (On (Found (i == job))) (hash_meaning o))
     finds job = let o : HashOp = record { hash = s.states; act = find job } in by_table (λ m a w. (a ≡ found_reply (value_at (hash_shown s.states m) job)) × (hash_shown s.states w ≡ hash_shown s.states m)) (Found (i == job)) (hash_meaning o)
         (λ n m ks a there e. let one = leads_find s.states job n m ks a there e in (one.0, ((one.1.0, one.1.1), one.1.2)))
         (λ m w a r held. (λ e. let same : i ≡ job = grind (arith, nat_tests, e) in subst (λ k. a ≡ found_reply (value_at (hash_shown s.states m) k)) (sym same) r.0, ap₂ job_of (ap (λ ps. value_at ps i) r.1) held))
 
-    pub marks : (job state : ℕ) → (let o : HashOp = record { hash = s.states; act = put_state job state } in LeadsTo (HasParts s) (On (Marked (i == job) state)) (hash_meaning o))
+    pub marks : (job state : ℕ) → (let o : HashOp = record { hash = s.states; act = put_state job state } in LeadsTo (AreJobCells s) (On (Marked (i == job) state)) (hash_meaning o))
     marks job state = let o : HashOp = record { hash = s.states; act = put_state job state } in by_table (λ m a w. ((value_at (hash_shown s.states m) job ≡ None) × (hash_shown s.states w ≡ hash_shown s.states m)) ⊎ (hash_shown s.states w ≡ with_pair (hash_shown s.states m) job state)) (Marked (i == job) state) (hash_meaning o) (leads_put s.states job state) so
       where
         by_test : (m w : ℕ → ℕ) (this : Bool) → (i == job) ≡ this → hash_shown s.states w ≡ with_pair (hash_shown s.states m) job state → value_held (end_cell s i) w ≡ value_held (end_cell s i) m → job_at s w i ≡ cond this (job_of (Some state) (job_at s m i).told) (job_at s m i)
@@ -91,33 +86,33 @@ module _ (s : Sched) (laid : IsSchedLaid s) where
     abbrev Tells : Promise → PromiseAct → (ℕ → ℕ) → Reply → (ℕ → ℕ) → Type 0
     Tells end act m a w = ((promise_value act (value_held end.base.0 m)).outcome ≡ replied a) × (value_held end.base.0 w ≡ (promise_value act (value_held end.base.0 m)).content) × OnlyWithin end.base.0 (end.base.0 + place_cells) m w
 
-    pub tells : (job : ℕ) (end : Promise) (act : PromiseAct) → IsEndOf s job end → (let o : PromiseOp = record { promise = end; act = act } in LeadsTo (HasParts s) (On (Told (i == job) act)) (promise_meaning o))
-    tells job end act is = let o : PromiseOp = record { promise = end; act = act } in leads_more (HasParts s) (Tells end act) (On (Told (i == job) act)) (promise_meaning o)
-        (leads_also (WellFormed (PlaceHolds end.base.0)) (HasParts s) (Tells end act) (promise_meaning o) (leads_promise end act) (λ m parts. subst (λ b. WellFormed (PlaceHolds b) m) (sym is.1) (parts.1 job is.0)) keeps)
+    pub tells : (job : ℕ) (end : Promise) (act : PromiseAct) → IsEndOfJob s job end → (let o : PromiseOp = record { promise = end; act = act } in LeadsTo (AreJobCells s) (On (Told (i == job) act)) (promise_meaning o))
+    tells job end act is = let o : PromiseOp = record { promise = end; act = act } in leads_more (AreJobCells s) (Tells end act) (On (Told (i == job) act)) (promise_meaning o)
+        (leads_also (WellFormed (PlaceHolds end.base.0)) (AreJobCells s) (Tells end act) (promise_meaning o) (leads_promise end act) (λ m parts. subst (λ b. WellFormed (PlaceHolds b) m) (sym is.cell) (parts.1 job is.one)) keeps)
         (λ m w a parts r. by_test m w (i == job) refl parts r.1 r.2)
       where
         off_table : (m w : ℕ → ℕ) → OnlyWithin end.base.0 (end.base.0 + place_cells) m w → SameCells table (hash_cells_end s.states) m w
-        off_table m w out l ge below = sym (out l (λ c le under q. omega (arith, is.0, is.1, ge, under, q, laid.states)))
+        off_table m w out l ge below = sym (out l (λ c le under q. omega (arith, is.one, is.cell, ge, under, q, laid.states)))
 
         off_end : (m w : ℕ → ℕ) → OnlyWithin end.base.0 (end.base.0 + place_cells) m w → (k : ℕ) → k ≢ job → SameCells (end_cell s k) (end_cell s k + place_cells) m w
-        off_end m w out k ne l ge below = sym (out l (λ c le under q. omega (arith, ne, is.1, ge, below, le, under, q)))
+        off_end m w out k ne l ge below = sym (out l (λ c le under q. omega (arith, ne, is.cell, ge, below, le, under, q)))
 
-        keeps : (m w : ℕ → ℕ) (a : Reply) → HasParts s m → WellFormed (PlaceHolds end.base.0) w → Tells end act m a w → HasParts s w
+        keeps : (m w : ℕ → ℕ) (a : Reply) → AreJobCells s m → WellFormed (PlaceHolds end.base.0) w → Tells end act m a w → AreJobCells s w
         keeps m w a parts then r = ((table_stays m w (off_table m w r.2) parts.0).0, λ k below. one k below (k == job) refl)
           where
-            one : (k : ℕ) → k < JOBS → (t : Bool) → (k == job) ≡ t → WellFormed (PlaceHolds (end_cell s k)) w
-            one k below true e = let same : k ≡ job = grind (arith, nat_tests, e) in subst (λ b. WellFormed (PlaceHolds b) w) (is.1 ∙ ap (end_cell s) (sym same)) then
+            one : (k : ℕ) → k < s.many → (t : Bool) → (k == job) ≡ t → WellFormed (PlaceHolds (end_cell s k)) w
+            one k below true e = let same : k ≡ job = grind (arith, nat_tests, e) in subst (λ b. WellFormed (PlaceHolds b) w) (is.cell ∙ ap (end_cell s) (sym same)) then
             one k below false e = (end_stays k m w (off_end m w r.2 k (eqb-false _ _ e)) (parts.1 k below)).0
 
-        by_test : (m w : ℕ → ℕ) (this : Bool) → (i == job) ≡ this → HasParts s m → value_held end.base.0 w ≡ (promise_value act (value_held end.base.0 m)).content → OnlyWithin end.base.0 (end.base.0 + place_cells) m w → job_at s w i ≡ cond this (job_of (job_at s m i).state (promise_value act (job_at s m i).told).content) (job_at s m i)
+        by_test : (m w : ℕ → ℕ) (this : Bool) → (i == job) ≡ this → AreJobCells s m → value_held end.base.0 w ≡ (promise_value act (value_held end.base.0 m)).content → OnlyWithin end.base.0 (end.base.0 + place_cells) m w → job_at s w i ≡ cond this (job_of (job_at s m i).state (promise_value act (job_at s m i).told).content) (job_at s m i)
         by_test m w true e parts held out =
             let same : i ≡ job = grind (arith, nat_tests, e) in
-            let at : end.base.0 ≡ end_cell s i = is.1 ∙ ap (end_cell s) (sym same) in
+            let at : end.base.0 ≡ end_cell s i = is.cell ∙ ap (end_cell s) (sym same) in
             ap₂ job_of (ap (λ ps. value_at ps i) (table_stays m w (off_table m w out) parts.0).1) (subst (λ b. value_held b w ≡ (promise_value act (value_held b m)).content) at held)
         by_test m w false e parts held out = ap₂ job_of (ap (λ ps. value_at ps i) (table_stays m w (off_table m w out) parts.0).1) (end_stays i m w (off_end m w out i (eqb-false _ _ e)) (parts.1 i lt)).1
 
-    pub queues : (o : QueueOp) → queue_cells_end o.queue ≤ s.ends.base.0 → LeadsTo (HasParts s) (On Stays) (queue_meaning o)
-    queues o before = leads_more (HasParts s) (λ m a w. OnlyWithin o.queue.base.0 (queue_cells_end o.queue) m w) (On Stays) (queue_meaning o) (leads_within o.queue.base.0 (queue_cells_end o.queue) (HasParts s) (queue_program o.queue o.act replies) (queue_stays o) keeps)
+    pub queues : (o : QueueOp) → queue_cells_end o.queue ≤ s.ends.base.0 → LeadsTo (AreJobCells s) (On Stays) (queue_meaning o)
+    queues o before = leads_more (AreJobCells s) (λ m a w. OnlyWithin o.queue.base.0 (queue_cells_end o.queue) m w) (On Stays) (queue_meaning o) (leads_within o.queue.base.0 (queue_cells_end o.queue) (AreJobCells s) (queue_program o.queue o.act replies) (queue_stays o) keeps)
         (λ m w a parts out. ap₂ job_of (ap (λ ps. value_at ps i) (table_stays m w (off_table m w out) parts.0).1) (end_stays i m w (off_end m w out i) (parts.1 i lt)).1)
       where
         off_table : (m w : ℕ → ℕ) → OnlyWithin o.queue.base.0 (queue_cells_end o.queue) m w → SameCells table (hash_cells_end s.states) m w
@@ -126,5 +121,5 @@ module _ (s : Sched) (laid : IsSchedLaid s) where
         off_end : (m w : ℕ → ℕ) → OnlyWithin o.queue.base.0 (queue_cells_end o.queue) m w → (k : ℕ) → SameCells (end_cell s k) (end_cell s k + place_cells) m w
         off_end m w out k l ge below = sym (out l (λ c le under q. omega (arith, ge, under, q, before)))
 
-        keeps : (m w : ℕ → ℕ) → OnlyWithin o.queue.base.0 (queue_cells_end o.queue) m w → HasParts s m → HasParts s w
+        keeps : (m w : ℕ → ℕ) → OnlyWithin o.queue.base.0 (queue_cells_end o.queue) m w → AreJobCells s m → AreJobCells s w
         keeps m w out parts = ((table_stays m w (off_table m w out) parts.0).0, λ k below. (end_stays k m w (off_end m w out k) (parts.1 k below)).0)

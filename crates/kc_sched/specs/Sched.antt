@@ -1,11 +1,10 @@
--- What becomes of jobs.
-use Rattle.std.specs.Prelude.{◌≡◌, ℕ, ◌==◌, ◌+◌, ◌*◌, ◌<◌, ◌≤◌, Bool, true, false, ◌||◌, List, Option, Some, None, length, get_or}
+-- What becomes of a scheduler's jobs.
+use Rattle.std.specs.Prelude.{◌≡◌, ℕ, ◌==◌, ◌<◌, ◌≤◌, Bool, true, false, ◌||◌, List, Option, Some, None, length, get_or}
 use Rattle.std.specs.Option.{is_some}
-use Rattle.kc_cells.specs.OnePlace.{PlaceHolds, value_held}
 use Rattle.kc_compose.specs.Leads.{LeadsTo}
-use Rattle.kc_hash.specs.Content.{HashStandsFor, hash_shown, value_at}
 use Rattle.kc_hash.specs.Meaning.{hash_cells_end}
 use Rattle.kc_jobs.specs.declared.jobs.TheConstants.{CANCELLED, DONE, RUNNING, WAITING}
+use Rattle.kc_jobs_laws.specs.Taken.{AreJobCells, AreJobsLaid, Job, job_at, job_of}
 use Rattle.kc_keep.specs.Steps.{LastsThroughout, StepsThroughout}
 use Rattle.kc_model.specs.Legal.{IsLegal}
 use Rattle.kc_model.specs.Store.{Store}
@@ -14,33 +13,19 @@ use Rattle.kc_sched.specs.declared.sched.Sched.{Sched}
 use Rattle.kc_sched.specs.declared.sched.TheConstants.{JOBS}
 use Rattle.kc_store.specs.Views.{PastView, last}
 use Rattle.kc_xt.specs.Meaning.{Meaning}
-use Rattle.kc_xt.specs.Structure.{WellFormed}
 
--- ---- where the parts lie
-
-abbrev pub end_cell : Sched → ℕ → ℕ
-end_cell s job = s.ends.base.0 + 2 * job
-
--- one behind another, with an end for each job
+-- its parts lie one behind another, and it has this many jobs
 pub record IsSchedLaid (s : Sched) : Type 0 where
-  pub ready : queue_cells_end s.line ≤ s.ready.base.0
-  pub ends : queue_cells_end s.ready ≤ s.ends.base.0
-  pub many : s.ends.cells ≡ 2 * JOBS
-  pub states : s.ends.base.0 + 2 * JOBS ≤ s.states.base.0
+  pub line : queue_cells_end s.line ≤ s.ready.base.0
+  pub ready : queue_cells_end s.ready ≤ s.jobs.ends.base.0
+  pub jobs : AreJobsLaid s.jobs
+  pub many : s.jobs.many ≡ JOBS
 
 -- a store of so many locations has the scheduler
 abbrev pub HasSched : Sched → ℕ → Type 0
-HasSched s size = IsSchedLaid s × (hash_cells_end s.states ≤ size)
+HasSched s size = IsSchedLaid s × (hash_cells_end s.jobs.states ≤ size)
 
 -- ---- jobs
-
--- what the table says of a job, and what its end was told
-pub record Job : Type 0 where
-  pub state : Option ℕ
-  pub told : Option ℕ
-
-abbrev pub job_of : Option ℕ → Option ℕ → Job
-job_of state told = record { state = state; told = told }
 
 -- what can be said of a job: its end is told where it was cancelled or is done, and else not
 pub data IsJob : Job → Type 0 where
@@ -58,21 +43,13 @@ pub data JobGoes : Job → Job → Type 0 where
   is_cancelled : JobGoes (job_of (Some WAITING) None) (job_of (Some CANCELLED) (Some 0))
   ends : (v : ℕ) → JobGoes (job_of (Some RUNNING) None) (job_of (Some DONE) (Some v))
 
--- what the cells show of a job, whatever they hold
-abbrev pub job_at : Sched → (ℕ → ℕ) → ℕ → Job
-job_at s m job = job_of (value_at (hash_shown s.states m) job) (value_held (end_cell s job) m)
-
--- the cells are a table's and promises'
-abbrev pub HasParts : Sched → (ℕ → ℕ) → Type 0
-HasParts s m = WellFormed (HashStandsFor s.states) m × ((job : ℕ) → job < JOBS → WellFormed (PlaceHolds (end_cell s job)) m)
-
--- and stand for jobs
+-- the cells stand for jobs
 abbrev pub HasJobs : Sched → (ℕ → ℕ) → Type 0
-HasJobs s m = IsSchedLaid s × HasParts s m × ((job : ℕ) → job < JOBS → IsJob (job_at s m job))
+HasJobs s m = (s.jobs.many ≡ JOBS) × AreJobCells s.jobs m × ((job : ℕ) → job < JOBS → IsJob (job_at s.jobs m job))
 
 -- each job goes on by one step at most
 abbrev pub EachGoes : Sched → (ℕ → ℕ) → (ℕ → ℕ) → Type 0
-EachGoes s m w = (job : ℕ) → job < JOBS → JobGoes (job_at s m job) (job_at s w job)
+EachGoes s m w = (job : ℕ) → job < JOBS → JobGoes (job_at s.jobs m job) (job_at s.jobs w job)
 
 -- what a thread may commit: wherever the cells stand for jobs, it takes each on by one step at most
 abbrev pub GoesSo : Sched → Meaning → Type 0
@@ -86,7 +63,7 @@ is_settled_state None = false
 
 -- a job that was cancelled, or is done, or whose end was told, stays just so
 abbrev pub EndsStay : Sched → (ℕ → ℕ) → (ℕ → ℕ) → Type 0
-EndsStay s m w = (job : ℕ) → job < JOBS → (is_settled_state (job_at s m job).state || is_some (job_at s m job).told) ≡ true → job_at s w job ≡ job_at s m job
+EndsStay s m w = (job : ℕ) → job < JOBS → (is_settled_state (job_at s.jobs m job).state || is_some (job_at s.jobs m job).told) ≡ true → job_at s.jobs w job ≡ job_at s.jobs m job
 
 -- From these values on, each entry of the one history takes each job on by one step at most: it comes, starts, is cancelled or ends.
 -- And from each place to each later one, a job that was cancelled stays cancelled, so none is started any more; and what an end was told it stays.

@@ -1,0 +1,3 @@
+pub mod Parts
+pub mod Acts
+pub mod Unknown
