@@ -1,6 +1,6 @@
 #!/usr/bin/env bash
-# Builds a program of this repository without proving it, as fast code: its times are the proved program's within some hundredths, 40
-# seconds after an edit. For trials alone; what is published is measured on proved programs, or says so.
+# Builds a program of this repository without proving it, as fast code, 40 seconds after an edit: to compare two texts by. Its times aren't
+# those of the proved program, which may be put in line otherwise; what is published is measured on proved programs, or says so.
 # `rt try` hands clang the module; a clang of our own keeps it. What `rt try` adds to test is taken out, and functions are in line where
 # their sources say so.
 # Usage: tools/bench/unproved/build.sh CRATE OUT      (kc_bench and kc_bench_views: as mixes.sh and views.sh set them up)
