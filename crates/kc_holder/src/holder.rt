@@ -10,23 +10,23 @@ use std::marker::Model;
 use std::sync::Wait;
 
 // The one word: who finds it FREE has the value. AWAITED says that somebody may sleep until it is back.
-const WORD: usize = 0;
+pub(crate) const WORD: usize = 0;
 
-const FREE: u64 = 0;
+pub(crate) const FREE: u64 = 0;
 
 const TAKEN: u64 = 1;
 
 const AWAITED: u64 = 2;
 
 // The one slot.
-const SLOT: usize = 0;
+pub(crate) const SLOT: usize = 0;
 
 type Memory<X> = Shared<Option<X>, <X as Fits>::Tag, <X as Fits>::Tag, Lends<X>>;
 
 /// A value that one at a time takes out. Contracts see the tag with which it was made, and which one it is.
 #[derive(Drop)]
 pub struct Holder<X: Fits> {
-    table: Table<Option<X>, X::Tag, X::Tag, Lends<X>, Global>,
+    pub(crate) table: Table<Option<X>, X::Tag, X::Tag, Lends<X>, Global>,
 }
 
 impl<X: Fits> Model for Holder<X> {

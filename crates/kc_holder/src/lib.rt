@@ -2,6 +2,7 @@
 //! threads; and each value that is taken out fits the tag with which the holder was made.
 #![tactic(auto)]
 
+mod closing;
 mod holder;
 mod rule;
 
