@@ -41,9 +41,83 @@ impl Op {
         Op { mark: OR, ..self }
     }
 
+    /// Its first number, a value or a key, is what that operation of its alternative replied, the alternative's first being 0. Where
+    /// that was no number, this one does nothing and replies `Empty`.
+    pub fn fed(self, operation: usize) -> Op {
+        Op {
+            mark: if self.feeds_b() { FED_BOTH } else { FED_A },
+            a: word(operation),
+            ..self
+        }
+    }
+
+    /// The same of its second number: of a key's value, say.
+    pub fn fed_second(self, operation: usize) -> Op {
+        Op {
+            mark: if self.feeds_a() { FED_BOTH } else { FED_B },
+            b: word(operation),
+            ..self
+        }
+    }
+
+    fn feeds_a(&self) -> bool {
+        self.mark == FED_A || self.mark == FED_BOTH
+    }
+
+    fn feeds_b(&self) -> bool {
+        self.mark == FED_B || self.mark == FED_BOTH
+    }
+
     pub(crate) fn begins_an_alternative(&self) -> bool {
         self.mark == OR
     }
+
+    // The same behind so many more operations: it is fed by the same ones, and by none where it was by none.
+    pub(crate) fn moved(self, place: usize, by: usize) -> Op {
+        let moved = |at: u32| {
+            if (at as usize) < place {
+                at + by as u32
+            } else {
+                u32::MAX
+            }
+        };
+        Op {
+            a: if self.feeds_a() {
+                moved(self.a)
+            } else {
+                self.a
+            },
+            b: if self.feeds_b() {
+                moved(self.b)
+            } else {
+                self.b
+            },
+            ..self
+        }
+    }
+
+    // Whether it puts nothing, whatever stands there.
+    pub(crate) fn only_reads(&self) -> bool {
+        matches!(
+            self.verb,
+            SAY | GET
+                | CHECK
+                | DIFFERS
+                | TOP
+                | FRONT
+                | FIND
+                | MPEEK
+                | AWAIT
+                | RESOLVED
+                | TOTAL
+                | LEN
+        )
+    }
+}
+
+// What is no place of an operation names none.
+fn word(operation: usize) -> u32 {
+    u32::try_from(operation).unwrap_or(u32::MAX)
 }
 
 /// Replies the number: it tells which alternative ran.
@@ -133,6 +207,8 @@ structure! {
     Stack {
         /// `Unit`, or `Full`.
         push(item: u32) = PUSH(item, 0);
+        /// `Unit`; waits where there is no room.
+        pushw(item: u32) = PUSHW(item, 0);
         /// Takes the top item, or `Empty`.
         pop() = POP(0, 0);
         /// Takes the top item; waits where there is none.
@@ -149,6 +225,8 @@ structure! {
     Queue {
         /// `Unit`, or `Full`.
         enq(item: u32) = ENQ(item, 0);
+        /// `Unit`; waits where there is no room.
+        enqw(item: u32) = ENQW(item, 0);
         /// Takes the front item, or `Empty`.
         deq() = DEQ(0, 0);
         /// Takes the front item; waits where there is none.
@@ -172,6 +250,8 @@ structure! {
     Table {
         /// `Unit`, or `Full` where the key is new and there is no room.
         put(key: u32, value: u32) = PUT(key, value);
+        /// `Unit`; waits where the key is new and there is no room.
+        putw(key: u32, value: u32) = PUTW(key, value);
         /// The key's value, or `Empty`.
         find(key: u32) = FIND(key, 0);
         /// Takes the key out, and replies its value, or `Empty`.
