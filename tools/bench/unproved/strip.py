@@ -30,20 +30,30 @@ def without_parameters(words):
     return words
 
 
-def owner(line):
-    """The name under which LLVM's text has the functions of this impl."""
+def owner(line, path, homes):
+    """Under which path LLVM's text has the functions of this impl: a type's own stand where the type does, wherever they are written."""
     words = without_parameters(line[4:].strip()).split(" where")[0].rstrip("{ ")
     first, found, second = words.partition(" for ")
-    return type_name(second) + type_name(first) if found else type_name(first)
+    if found:
+        return [*path, type_name(second) + type_name(first)]
+    return [*homes.get((path[0], type_name(first)), path), type_name(first)]
 
 
-def wishes_of(file, path):
+def homes_of(file, path):
+    """The types of a file, each with its crate, and where it stands."""
+    for line in file:
+        named = re.match(r"(?:pub(?:\([^)]*\))? )?(?:struct|enum) (\w+)", line)
+        if named:
+            yield (path[0], named.group(1)), path
+
+
+def wishes_of(file, path, homes):
     """The functions of a file with what they are marked, by their names in LLVM's text."""
     within, pending = None, []
     for line in file:
         words = line.strip()
         if line.startswith("impl"):
-            within = owner(line)
+            within = owner(line, path, homes)
         elif line.startswith("}"):
             within = None
         if words.startswith("#["):
@@ -52,26 +62,36 @@ def wishes_of(file, path):
         named = re.match(r"(?:pub(?:\([^)]*\))? )?(?:const )?fn (\w+)", words)
         if named:
             marks = {MARKS[it] for it in pending if it in MARKS}
-            parts = [*path, within if line[0] in " \t" else None, named.group(1)]
             if marks:
-                yield "::".join(it for it in parts if it), marks
+                yield "::".join([*(within if within and line[0] in " \t" else path), named.group(1)]), marks
         if words and not words.startswith("//"):
             pending = []
 
 
-def wishes(top):
-    """Of all crates of a folder."""
-    found = {}
+def sources(top):
+    """The files of all crates of a folder, each with its path as in LLVM's text."""
     for crate in os.listdir(top):
         source = os.path.join(top, crate, "src")
         for at, _, names in os.walk(source):
             for name in names:
                 if name.endswith(".rt"):
                     path = os.path.relpath(os.path.join(at, name), source)[:-3].split(os.sep)
-                    path = [it for it in path if it not in ("lib", "main", "mod")]
-                    with open(os.path.join(at, name), encoding="utf-8") as file:
-                        found.update(wishes_of(file, [crate, *path]))
+                    yield os.path.join(at, name), [crate, *(it for it in path if it not in ("lib", "main", "mod"))]
+
+
+def each_file(top, found_in):
+    """What is found in the files of all crates of a folder."""
+    found = {}
+    for name, path in sources(top):
+        with open(name, encoding="utf-8") as file:
+            found.update(found_in(file, path))
     return found
+
+
+def wishes(top):
+    """Of all crates of a folder."""
+    homes = each_file(top, homes_of)
+    return each_file(top, lambda file, path: wishes_of(file, path, homes))
 
 
 def stripped(line, marks):
