@@ -3,7 +3,7 @@ use Rattle.std.proofs.Common.{◌≡◌, ℕ, ◌==◌, ◌||◌, Bool, true, fa
 use Rattle.std.specs.Option.{option_and_then, option_map, option_or}
 use Rattle.kc_calls.specs.Fed.{takes_number}
 use Rattle.kc_calls.specs.Meaning.{call_end, end_said}
-use Rattle.kc_calls.specs.Said.{acted, accumulator_said, cache_said, call_said, done_to, fun_said, grow_said, loc_said, mvar_said, plain_verb, promise_said, queue_said, rel_said, stack_said, table_said, waits_for_room}
+use Rattle.kc_calls.specs.Said.{acted, accumulator_said, cache_said, call_said, done_to, fun_said, grow_said, loc_said, mvar_said, promise_said, queue_said, rel_said, stack_said, table_said, waits_for_room}
 use Rattle.kc_calls.specs.Structures.{structure_of}
 use Rattle.kc_calls.specs.declared.call.Call.{Call}
 use Rattle.kc_calls.specs.declared.call.Call.TheVariants as call

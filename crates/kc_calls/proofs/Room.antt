@@ -1,5 +1,5 @@
 -- Operations that wait for room.
-use Rattle.std.proofs.Common.{◌≡◌, ℕ, Bool, true, false, List, cond}
+use Rattle.std.proofs.Common.{Bool, true, false, List, cond}
 use Rattle.kc_compose.proofs.Lines.{queue_touches, stack_touches}
 use Rattle.kc_compose.proofs.Locations.{loc_touches}
 use Rattle.kc_compose.proofs.Places.{acc_touches, mvar_touches, promise_touches}
@@ -13,7 +13,6 @@ use Rattle.kc_grow.specs.declared.grow.Grow.{Grow}
 use Rattle.kc_grow.specs.declared.operation.GrowAct.{GrowAct}
 use Rattle.kc_grow.specs.declared.operation.GrowAct.TheVariants as grow
 use Rattle.kc_grow.specs.declared.operation.GrowOp.{GrowOp}
-use Rattle.kc_model.specs.declared.reply.Reply.{Reply}
 use Rattle.kc_script_bundle.specs.Meaning.{cancel_op, op_meaning}
 use Rattle.kc_script_bundle.specs.declared.operation.Op.{Op}
 use Rattle.kc_script_bundle.specs.declared.operation.Op.TheVariants as op

@@ -1,6 +1,6 @@
 use Rattle.std.proofs.Common.{sym}
 use Rattle.kc_calls.proofs.Room.{op_touches}
-use Rattle.kc_compose.proofs.WaitLaw.{obeys_wait_says, obeys_wait_stops, obeys_wait_waits}
+use Rattle.kc_compose.proofs.WaitLaw.{obeys_wait_says, obeys_wait_waits}
 use Rattle.kc_compose.specs.declared.sort.Sort.TheVariants.{Full}
 use Rattle.kc_script_bundle.specs.Meaning.{op_end, op_meaning}
 use Rattle.kc_calls.proofs.call.run_with_room.Goals as goal

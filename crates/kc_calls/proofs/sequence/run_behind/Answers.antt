@@ -1,4 +1,3 @@
-use Rattle.std.proofs.Common.{arith}
 use Rattle.kc_calls.proofs.Feeding.{fed_nothing, is_fed_so}
 use Rattle.kc_calls.proofs.Fits.{operation_fits}
 use Rattle.kc_calls.proofs.sequence.run_behind.Goals as goal
