@@ -66,15 +66,14 @@ fn four_threads_take_a_value_in_turn(rt: HostRuntime) -> Result<(), Fail> {
     };
     let holder = Holder::new(rt.alloc(), count, &MOST)?;
     let (rt, shared) = (&rt, &holder);
-    thread::join(
-        rt,
-        || add_by_two(rt, shared),
-        || add_by_two(rt, shared),
-    );
+    thread::join(rt, || add_by_two(rt, shared), || add_by_two(rt, shared));
     let (held, taken) = holder.take(rt);
     let came = (held.made, held.alone.get());
     let again = is_free(&holder);
     holder.give(taken, held);
-    assert_eq!(rt; (came, again, is_free(&holder)), ((20_000, 20_000), false, true));
+    assert_eq!(rt;
+        (came, again, is_free(&holder)),
+        ((20_000, 20_000), false, true)
+    );
     Ok(())
 }
