@@ -141,6 +141,10 @@ enum { KCAS_EQ = 1, KCAS_NE, KCAS_LT, KCAS_LE, KCAS_GT, KCAS_GE };
  * KCAS_MODIFY and KCAS_CHECK, whose `a` is a location, a function or a relation. kcas_fed_a and kcas_fed_b set the mark. */
 enum { KCAS_NEXT = 0, KCAS_OR = 1, KCAS_FED_A = 2, KCAS_FED_B = 3, KCAS_FED_BOTH = 4 };
 
+/* No mark. An operation that begins an alternative has none before it there, so it can't be fed: kcas_or of one that is fed, or kcas_fed_a or
+ * kcas_fed_b of one that begins an alternative, sets this, and the transaction is KCAS_BAD_OPS. */
+#define KCAS_NO_MARK UINT32_MAX
+
 typedef struct kcas_op {
     uint32_t verb, mark;
     kcas_object on;
@@ -171,7 +175,7 @@ enum {
     KCAS_BUSY = 6, /* given up in time: nothing was done; try again */
     /* of a view, besides the first three and KCAS_BUSY */
     KCAS_PUTS = 7, /* it would put something: nothing was done */
-    KCAS_CHANGED = 8, /* what it read has changed since: view again */
+    KCAS_CHANGED = 8, /* what it read has changed since, or a descriptor of another caller stood there: view again */
     /* of a wrong call: nothing was changed */
     KCAS_CLOSED = 16,
     KCAS_IS_OPEN = 17,
@@ -226,8 +230,10 @@ uint32_t kcas_try(kcas_caller *caller, const kcas_op *ops, size_t count, kcas_re
 
 /* Views the operations once, as one transaction that puts nothing: KCAS_DONE, with replies as by kcas_try, where all that they read stood at one
  * moment. KCAS_LATER, KCAS_TOO_LARGE; KCAS_PUTS where they would put something (so a KCAS_DEQ of an empty queue is a view, and of
- * another is not); KCAS_CHANGED where what they read has changed meanwhile; KCAS_BUSY; KCAS_BAD_OPS as by kcas_try. It takes no descriptor, puts
- * nothing, and no other caller loses or waits by it; kcas_reads tells what it read, and one may hang on that. kcas_look below views again. */
+ * another is not); KCAS_CHANGED where what they read has changed meanwhile, or a descriptor of another caller stood there, though nothing may have
+ * changed; KCAS_BUSY; KCAS_BAD_OPS as by kcas_try. It takes no descriptor, puts nothing, and no other caller loses or waits by it, nor is helped: where
+ * one has stopped amid its try, views of what that would put may be answered KCAS_CHANGED until it goes on, or a try of another ends it. kcas_reads
+ * tells what it read, and one may hang on that. kcas_look below views again. */
 uint32_t kcas_view(kcas_caller *caller, const kcas_op *ops, size_t count, kcas_reply *replies, size_t room);
 
 /* Tries once, as one transaction, to add a number to one location, which wraps: as kcas_try of one KCAS_ADD, for less. At KCAS_DONE
@@ -238,7 +244,7 @@ uint32_t kcas_add(kcas_caller *caller, uint32_t location, uint32_t number, uint3
 /* One location and its version, without a transaction: KCAS_DONE; KCAS_BUSY; KCAS_BAD_OPS for a location outside. */
 uint32_t kcas_read(kcas_caller *caller, uint32_t location, uint32_t *value, uint32_t *version);
 
-/* What the last try read, in rising order of location: how many are written. */
+/* What the last try or view read, in rising order of location: how many are written. Behind KCAS_BUSY they may be those of an earlier one. */
 size_t kcas_reads(kcas_caller *caller, kcas_seen *reads, size_t room);
 
 /* A wait for a change of what the last try read, a step a call; kcas_commit_waiting below makes it. kcas_hang begins it:
@@ -370,18 +376,26 @@ static inline kcas_op kcas_do(kcas_object on, uint32_t verb, uint32_t a, uint32_
 static inline kcas_op kcas_at(uint32_t location, uint32_t verb, uint32_t a, uint32_t b) { return kcas_do(kcas_loc(location), verb, a, b); }
 static inline kcas_op kcas_check(uint32_t location, uint32_t relation, uint32_t value) { return kcas_at(location, KCAS_CHECK, relation, value); }
 static inline kcas_op kcas_say(uint32_t value) { return kcas_at(0, KCAS_SAY, value, 0); }
+/* It begins the next alternative. One that is fed can't: that is KCAS_BAD_OPS. */
 static inline kcas_op kcas_or(kcas_op op) {
-    op.mark = KCAS_OR;
+    if (op.mark == KCAS_NEXT) op.mark = KCAS_OR;
+    if (op.mark != KCAS_OR) op.mark = KCAS_NO_MARK;
     return op;
 }
-/* Its number `a`, or `b`, is what that operation of its alternative replied. */
+static inline uint32_t kcas_fed_mark(uint32_t mark, uint32_t by) {
+    if (mark == KCAS_NEXT || mark == by) return by;
+    if (mark == KCAS_FED_A || mark == KCAS_FED_B || mark == KCAS_FED_BOTH) return KCAS_FED_BOTH;
+    return KCAS_NO_MARK;
+}
+/* Its number `a`, or `b`, is what that operation of its alternative replied. KCAS_BAD_OPS for one that begins an alternative, before which there is
+ * none; and by kcas_fed_a for a KCAS_SWAP, KCAS_UPDATE, KCAS_MODIFY or KCAS_CHECK, whose `a` is no value and no key. */
 static inline kcas_op kcas_fed_a(kcas_op op, uint32_t operation) {
-    op.mark = op.mark == KCAS_FED_B || op.mark == KCAS_FED_BOTH ? KCAS_FED_BOTH : KCAS_FED_A;
+    op.mark = kcas_fed_mark(op.mark, KCAS_FED_A);
     op.a = operation;
     return op;
 }
 static inline kcas_op kcas_fed_b(kcas_op op, uint32_t operation) {
-    op.mark = op.mark == KCAS_FED_A || op.mark == KCAS_FED_BOTH ? KCAS_FED_BOTH : KCAS_FED_B;
+    op.mark = kcas_fed_mark(op.mark, KCAS_FED_B);
     op.b = operation;
     return op;
 }
@@ -593,20 +607,25 @@ KCAS_SELDOM int kcas_only_reads(const kcas_op *op) {
     }
 }
 /* The views behind a first one that found a change. A view helps nobody who stands in its way; a commit does, so operations that only read are
- * committed behind eight views. */
+ * committed behind eight views. Others end behind 64. */
 KCAS_SELDOM uint32_t kcas_look_on(kcas_bell *bell, kcas_caller *caller, const kcas_op *ops, size_t count, kcas_reply *replies, size_t room, uint32_t answer) {
     uint32_t pauses = 16;
     int reads = 1;
     for (size_t i = 0; i < count; i++) reads = reads && kcas_only_reads(&ops[i]);
-    for (uint32_t views = 1; kcas_missed(answer) && (views < 8 || !reads); views++) {
+    for (uint32_t views = 1; kcas_missed(answer) && views < (reads ? 8 : 64); views++) {
         kcas_back_off(&pauses);
         answer = kcas_view_once(caller, ops, count, replies, room);
     }
+    if (!reads) return kcas_missed(answer) ? (uint32_t)KCAS_CHANGED : answer;
     for (; kcas_missed(answer); kcas_back_off(&pauses)) answer = kcas_try_once(bell, caller, ops, count, replies, room);
     return answer;
 }
-/* Views until what was read has not changed meanwhile: every answer of kcas_view but KCAS_CHANGED and KCAS_BUSY, or of kcas_commit of operations that
- * only read. It puts nothing. Wakes aren't its own, so the bell may be NULL where nobody waits. */
+/* Views until what was read has not changed meanwhile: every answer of kcas_view but KCAS_BUSY. It puts nothing.
+ *
+ * Where all operations are such as never put (KCAS_GET, KCAS_FRONT, KCAS_LEN ..), it commits them behind eight views in vain. Then they take a
+ * descriptor and have an entry as other commits do, and KCAS_POOL_WORN is an answer too, but KCAS_CHANGED is none. Where one may put (a KCAS_DEQ of an
+ * empty queue is viewed) it never commits, and ends with KCAS_CHANGED behind 64 views in vain, as it does where another caller has stopped amid its
+ * try: look again, or commit. The bell is for those whom a commit wakes; it may be NULL where nobody waits. */
 static inline uint32_t kcas_look(kcas_bell *bell, kcas_caller *caller, const kcas_op *ops, size_t count, kcas_reply *replies, size_t room) {
     kcas_enter(caller);
     uint32_t answer = kcas_view_once(caller, ops, count, replies, room);
@@ -615,11 +634,12 @@ static inline uint32_t kcas_look(kcas_bell *bell, kcas_caller *caller, const kca
     return answer;
 }
 
-/* How much of the life of these locations is gone: the greatest version among them, of KCAS_LAST_VERSION; 0 for none. Each put of a
+/* How much of the life of these locations is gone: at KCAS_DONE *gone gets the greatest version among them, of KCAS_LAST_VERSION; else it stays.
+ * KCAS_CLOSED; KCAS_NOT_NOW for a caller that hangs; KCAS_BAD_OPS where one lies outside, or there are none. Each put of a
  * location makes its version one more, and behind the last one KCAS_WORN is answered. A location that is put a thousand times a second lasts
  * for 24 days, one that is put ten million times a second for three and a half minutes. */
-KCAS_SELDOM uint32_t kcas_life(kcas_caller *caller, uint32_t first, uint32_t count) {
-    uint32_t most = 0, value = 0, version = 0, answer;
+KCAS_SELDOM uint32_t kcas_life(kcas_caller *caller, uint32_t first, uint32_t count, uint32_t *gone) {
+    uint32_t most = 0, value = 0, version = 0, answer = KCAS_BAD_OPS;
     kcas_enter(caller);
     for (uint32_t i = 0; i < count; i++) {
         while ((answer = kcas_read(caller, first + i, &value, &version)) == KCAS_BUSY) kcas_pause();
@@ -627,7 +647,8 @@ KCAS_SELDOM uint32_t kcas_life(kcas_caller *caller, uint32_t first, uint32_t cou
         if (version > most) most = version;
     }
     kcas_exit(caller);
-    return most;
+    if (answer == KCAS_DONE) *gone = most;
+    return answer;
 }
 
 /* ---- callers that come and go ---- */
@@ -692,8 +713,9 @@ static inline kcas_op kcas_moved(kcas_op op, size_t place, uint32_t by) {
 
 /* Commits these operations at a moment at which all that the last try read has the values that it had then; so the operations of that try would be
  * answered the same. KCAS_LATER where something has changed: then look again, and compute anew. One looks by kcas_commit or the like,
- * at structures too, computes, and acts by this. KCAS_BAD_OPS where reads and operations are more than 16 together, or there is an
- * alternative among them. */
+ * at structures too, computes, and acts by this: not behind a kcas_try or kcas_view that was answered KCAS_BUSY, nor a kcas_look answered KCAS_CHANGED,
+ * for then what kcas_reads tells, and this compares, may be of an earlier one. KCAS_BAD_OPS where reads and operations are more than 16 together, or
+ * there is an alternative among them. */
 static inline uint32_t kcas_commit_as_seen(kcas_bell *bell, kcas_caller *caller, const kcas_op *ops, size_t count, kcas_reply *replies, size_t room) {
     kcas_op all[KCAS_MOST_OPS];
     kcas_reply told[KCAS_MOST_OPS];
@@ -773,18 +795,21 @@ static inline uint32_t kcas_still(kcas_bell *bell, kcas_log *log) {
     return kcas_commit(bell, log->caller, log->ops, reads, replies, KCAS_MOST_OPS);
 }
 
-/* The same, and it waits until one of them has changed where all still stands. */
+/* The same, and it waits until one of them has changed where all still stands; KCAS_CLOSED where it would and the bell has ended. */
 static inline uint32_t kcas_wait_in(kcas_bell *bell, kcas_log *log) {
     uint32_t answer = kcas_still(bell, log);
     if (log->count == 0) return KCAS_BAD_OPS;
-    if (answer == KCAS_DONE) kcas_hang_until(bell, log->caller, NULL);
+    if (answer != KCAS_DONE) return answer;
+    if (kcas_load(&bell->ended)) return KCAS_CLOSED;
+    kcas_hang_until(bell, log->caller, NULL);
     return answer;
 }
 
 /* Runs the body until what it read stood at one moment, and then makes its writes at that moment: KCAS_DONE. The body has no
  * effects but by kcas_write, may run many times, and ends by itself on any values. Where it answers KCAS_WAIT it runs again
- * once something of what it read has changed; where KCAS_STOP, or KCAS_WAIT without a bell, nothing is written: KCAS_LATER. KCAS_BAD_OPS for more
- * than 16 reads and writes, a location outside, a wait on nothing, or another wish than these three; or as kcas_try. */
+ * once something of what it read has changed; where KCAS_STOP, or KCAS_WAIT without a bell, nothing is written: KCAS_LATER. KCAS_CLOSED where it
+ * answers KCAS_WAIT by what stood at one moment, and the bell has ended. KCAS_BAD_OPS for more than 16 reads and writes, a location outside, a wait on
+ * nothing, or another wish than these three; or as kcas_try. */
 static inline uint32_t kcas_run(kcas_bell *bell, kcas_caller *caller, uint32_t (*body)(kcas_log *log, void *with), void *with) {
     for (;;) {
         kcas_log log;
@@ -795,7 +820,6 @@ static inline uint32_t kcas_run(kcas_bell *bell, kcas_caller *caller, uint32_t (
         if (log.failed) return log.failed;
         if (wish > KCAS_STOP) return KCAS_BAD_OPS;
         if (wish == KCAS_WAIT && bell) {
-            if (kcas_load(&bell->ended)) return KCAS_CLOSED;
             answer = kcas_wait_in(bell, &log);
             if (answer != KCAS_DONE && answer != KCAS_LATER) return answer;
         } else if (wish != KCAS_COMMIT) {

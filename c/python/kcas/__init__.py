@@ -37,6 +37,9 @@ _VERBS, _KINDS, _FUNCTIONS, _RELATIONS = (
     for words in (_numbers.VERBS, _numbers.KINDS, _numbers.FUNCTIONS, _numbers.RELATIONS)
 )
 
+# What puts nothing, whatever stands there.
+_READS = frozenset(_VERBS[word] for word in "say get check differs top front find mpeek await resolved total len".split())
+
 Relation = Literal["eq", "ne", "lt", "le", "gt", "ge"]
 Function = Literal["add", "max", "min", "and", "or", "xor"]
 
@@ -139,6 +142,7 @@ _CAUSES = {
     3: "a location that it would put has been put 2,147,483,647 times, and is never put again",
     4: "the store has no descriptor left, after billions of tries",
     7: "the operations would put something, which a view can't",
+    8: "what the operations read was changed at each of 64 views, or another caller stopped amid its commit",
     16: "the caller is closed, or another thread uses it",
     18: "the operations are no transaction of this store",
     19: "there is no memory for a store",
@@ -197,11 +201,11 @@ class Op:
 
     def fed(self, operation: int) -> Op:
         """Its first number, a value or a key, is what that operation of its alternative replied, the alternative's first being 0. Where that was no
-        number, this one does nothing and replies EMPTY."""
+        number, this one does nothing and replies EMPTY. BadOps for the first of an alternative, and for swap, update, modify and check."""
         return self._fed(FED_A, _word(operation), self.raw.b)
 
     def fed_second(self, operation: int) -> Op:
-        """The same of its second number: of a key's value, say."""
+        """The same of its second number: of a key's value, say, or of the number of an update."""
         return self._fed(FED_B, self.raw.a, _word(operation))
 
     def _fed(self, mark: int, a: int, b: int) -> Op:
@@ -535,14 +539,21 @@ class Caller:
                 return self._told(alternatives, array, answer)
 
     def look(self, *ops: Op) -> List[Reply]:
-        """The replies of operations that put nothing, as of one moment. No other caller loses by it. It raises Refused (KCAS_PUTS) where they would
-        put something."""
+        """The replies of operations that put nothing, as of one moment. It raises Refused (KCAS_PUTS) where they would put something. No other
+        caller loses by a view; but behind eight in vain operations that never put are committed, with an entry, and may raise Refused
+        (KCAS_POOL_WORN), and others raise Refused (KCAS_CHANGED) behind 64."""
         array = self._array([ops])
-        while True:
+        # A view helps nobody who stands in its way; a commit does.
+        only_reads = all(op.raw.verb in _READS for op in ops)
+        for _ in range(8 if only_reads else 64):
             answer = _lib.kcas_view(ctypes.byref(self._handle), array, len(array), self._replies, MOST_OPS)
             if answer not in (CHANGED, BUSY):
+                told = self._told([ops], array, answer)
                 break
-        told = self._told([ops], array, answer)
+        else:
+            if not only_reads:
+                raise Refused(CHANGED)
+            told = self._try([ops])
         if told is None:
             raise Waits
         return told
@@ -555,7 +566,7 @@ class Caller:
                 seat.notify_all()
 
     def life(self, location: Loc) -> int:
-        """How much of the life of a location is gone: how often it has been put, of 2,147,483,647 times."""
+        """How much of the life of a location is gone: how often it has been put, of 2,147,483,647 times. Refused where there is none such."""
         self.read(location)
         return self._version.value
 

@@ -173,13 +173,17 @@ impl Caller {
         answer
     }
 
-    /// The replies of operations that put nothing, as of one moment, or `None` where they would wait. No other caller loses by it. Refused
-    /// as [`Refused::Puts`] where they would put something.
+    /// The replies of operations that put nothing, as of one moment, or `None` where they would wait. Refused as [`Refused::Puts`] where they
+    /// would put something. No other caller loses by a view; but behind eight in vain operations that never put are committed, with an
+    /// entry, and may be refused as [`Refused::PoolWorn`], and others are refused as [`Refused::Changed`] behind 64.
     pub fn look(&mut self, ops: &[Op]) -> Result<Option<Replies>, Refused> {
         let mut replies = [RawReply::default(); MOST_OPS];
         let may_commit = ops.iter().all(Op::only_reads);
         // A view helps nobody who stands in its way; a commit does.
         for views in 0.. {
+            if views == 64 && !may_commit {
+                break;
+            }
             let answer = if views < 8 || !may_commit {
                 let handle = &mut self.handle.0;
                 let (first, room) = (replies.as_mut_ptr(), replies.len());
@@ -195,7 +199,7 @@ impl Caller {
                 answer => return Err(Refused::of(answer)),
             }
         }
-        unreachable!("views go on")
+        Err(Refused::Changed)
     }
 
     /// The same, and it waits where it would have to.
@@ -300,7 +304,8 @@ impl Caller {
         }
     }
 
-    /// How much of the life of a location is gone: how often it has been put, of 2,147,483,647 times.
+    /// How much of the life of a location is gone: how often it has been put, of 2,147,483,647 times. Refused as [`Refused::BadOps`] for one
+    /// outside of the store.
     pub fn life(&mut self, location: Location) -> Result<u32, Refused> {
         Ok(self.seen(location)?.1)
     }

@@ -18,6 +18,8 @@ pub enum Refused {
     BadOps(Option<usize>),
     /// Operations that were to be viewed would put something.
     Puts,
+    /// Operations that may put something were viewed 64 times in vain: what they read changed, or another caller had stopped amid its commit.
+    Changed,
     /// It would wait, and the store's waits have ended.
     Closed,
     /// There is no memory for a store.
@@ -37,6 +39,7 @@ impl Refused {
             POOL_WORN => Refused::PoolWorn,
             BAD_OPS => Refused::BadOps(None),
             PUTS => Refused::Puts,
+            CHANGED => Refused::Changed,
             CLOSED => Refused::Closed,
             NO_MEMORY => Refused::NoMemory,
             BAD_SIZE => Refused::BadSize,
@@ -52,6 +55,7 @@ impl Refused {
             Refused::PoolWorn => POOL_WORN,
             Refused::BadOps(_) => BAD_OPS,
             Refused::Puts => PUTS,
+            Refused::Changed => CHANGED,
             Refused::Closed => CLOSED,
             Refused::NoMemory => NO_MEMORY,
             Refused::BadSize => BAD_SIZE,

@@ -36,27 +36,41 @@ impl Op {
     }
 
     /// It begins the next alternative: the first alternative that doesn't wait is done, and the others leave nothing. A transaction has at
-    /// most four.
+    /// most four. One that is fed can't begin one: then the transaction is refused as [`Refused::BadOps`].
     pub fn or(self) -> Op {
-        Op { mark: OR, ..self }
+        let mark = match self.mark {
+            NEXT | OR => OR,
+            _ => NO_MARK,
+        };
+        Op { mark, ..self }
     }
 
     /// Its first number, a value or a key, is what that operation of its alternative replied, the alternative's first being 0. Where
-    /// that was no number, this one does nothing and replies `Empty`.
+    /// that was no number, this one does nothing and replies `Empty`. One that begins an alternative can't be fed, since none stands
+    /// before it there, nor can this number of `swap`, `update`, `modify` and `check`: the transaction is refused as [`Refused::BadOps`].
     pub fn fed(self, operation: usize) -> Op {
         Op {
-            mark: if self.feeds_b() { FED_BOTH } else { FED_A },
+            mark: self.mark_fed(FED_A),
             a: word(operation),
             ..self
         }
     }
 
-    /// The same of its second number: of a key's value, say.
+    /// The same of its second number: of a key's value, say, or of the number of an `update`.
     pub fn fed_second(self, operation: usize) -> Op {
         Op {
-            mark: if self.feeds_a() { FED_BOTH } else { FED_B },
+            mark: self.mark_fed(FED_B),
             b: word(operation),
             ..self
+        }
+    }
+
+    fn mark_fed(&self, by: u32) -> u32 {
+        match self.mark {
+            NEXT => by,
+            mark if mark == by => by,
+            FED_A | FED_B | FED_BOTH => FED_BOTH,
+            _ => NO_MARK,
         }
     }
 
@@ -114,6 +128,9 @@ impl Op {
         )
     }
 }
+
+// No mark, which the library refuses: that of an operation which begins an alternative and is fed.
+const NO_MARK: u32 = u32::MAX;
 
 // What is no place of an operation names none.
 fn word(operation: usize) -> u32 {

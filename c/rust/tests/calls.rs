@@ -206,6 +206,23 @@ fn replies_feed_what_comes_behind() {
     assert_eq!(one.read(sum), Ok(3));
     let later = [sum.get(), sum.set(0).fed(1)];
     assert_eq!(one.commit(&later), Err(Refused::BadOps(Some(1))));
+    // One that begins an alternative isn't fed.
+    let add = sum.add(0);
+    for neither in [
+        add.fed(0).or(),
+        add.or().fed(0),
+        add.fed_second(0).or(),
+        add.or().fed_second(0),
+        add.fed(0).fed_second(0).or(),
+        add.fed(0).or().fed_second(0),
+    ] {
+        let ops = [say(1), sum.get(), neither];
+        assert_eq!(one.commit(&ops), Err(Refused::BadOps(Some(2))));
+        assert_eq!(one.look(&ops), Err(Refused::BadOps(Some(2))));
+    }
+    assert_eq!(add.or().or(), add.or());
+    assert_eq!(add.fed(0).fed(0), add.fed(0));
+    assert_eq!(add.fed(0).fed_second(0), add.fed_second(0).fed(0));
 }
 
 #[test]
@@ -220,6 +237,7 @@ fn a_look_puts_nothing() {
     assert_eq!(one.life(x), Ok(0));
     one.add(x, 1).unwrap();
     assert_eq!(one.life(x), Ok(1));
+    assert_eq!(one.life(Location::at(60000)), Err(Refused::BadOps(None)));
 }
 
 #[test]

@@ -60,6 +60,10 @@ void fed_and_looked(kcas::caller &one) {
     CLAIM(refused_by([&] { one.look(puts); }).answer == KCAS_PUTS);
     puts.add_fed(kcas_loc(0), KCAS_ADD, 1);
     CLAIM(refused_by([&] { one.commit(puts); }).operation == 1);
+    kcas::transaction begins;
+    begins.add(kcas_say(1)).add(kcas_loc(0), KCAS_GET).or_else(kcas_fed_a(kcas_at(0, KCAS_ADD, 0, 0), 0));
+    CLAIM(refused_by([&] { one.commit(begins); }).operation == 2 && refused_by([&] { one.look(begins); }).operation == 2);
+    CLAIM(refused_by([&] { one.life(0, 5); }).answer == KCAS_BAD_OPS && refused_by([&] { one.life(0, 0); }).answer == KCAS_BAD_OPS);
 }
 
 void ends(kcas::caller &one, kcas::caller &other) {
@@ -101,7 +105,7 @@ int main() {
     kcas_reply reply;
     CLAIM(kcas_commit(one.bell(), one.get(), &op, 1, &reply, 1) == KCAS_DONE && callers[2].commit(kcas_loc(2), KCAS_GET).value == 1);
     one = std::move(other);
-    CLAIM(kcas_number(one.get()) == 1 && !kcas_is_open(other.get()));
+    CLAIM(kcas_number(one.get()) == 1 && !kcas_is_open(other.get()) && refused_by([&] { other.life(0, 1); }).answer == KCAS_CLOSED);
     ends(one, callers[2]);
     return 0;
 }

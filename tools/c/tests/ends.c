@@ -1,4 +1,5 @@
-/* Ends: who waits is told KCAS_CLOSED once the bell has ended, and so is who would wait; what needn't wait is done. Callers that come late and leave, more
+/* Ends: who waits is told KCAS_CLOSED once the bell has ended, and so is who would wait; what needn't wait is done, a body too that would have waited by
+ * what it saw at two moments. Callers that come late and leave, more
  * than there are places. An absurd count is refused at once. */
 #include "test.h"
 
@@ -36,6 +37,36 @@ static uint32_t waits(kcas_log *log, void *with) {
     (void)with;
     kcas_read_in(log, 0);
     return KCAS_WAIT;
+}
+
+static uint32_t waits_on_nothing(kcas_log *log, void *with) {
+    (void)log;
+    (void)with;
+    return KCAS_WAIT;
+}
+
+/* Its two locations are always equal; the first time another adds to both between its reads. So there is no moment at which it would wait. */
+static kcas_caller two[2];
+static uint32_t waits_where_unequal(kcas_log *log, void *with) {
+    kcas_op both[] = { kcas_at(0, KCAS_INCR, 0, 0), kcas_at(1, KCAS_INCR, 0, 0) };
+    kcas_reply replies[2];
+    uint32_t *runs = (uint32_t *)with, first = kcas_read_in(log, 0), second;
+    if ((*runs)++ == 0) CLAIM(kcas_commit(&bell, &two[1], both, 2, replies, 2) == KCAS_DONE);
+    second = kcas_read_in(log, 1);
+    if (first != second) return KCAS_WAIT;
+    kcas_write(log, 2, first + 10);
+    return KCAS_COMMIT;
+}
+
+static void bodies(void) {
+    uint32_t values[3] = { 0 }, runs = 0, value = 0, version = 0;
+    bell = (kcas_bell){ 0 };
+    CLAIM(kcas_open(values, 3, two, 2) == KCAS_DONE);
+    kcas_end(&bell);
+    CLAIM(kcas_run(&bell, &two[0], waits_where_unequal, &runs) == KCAS_DONE && runs == 2);
+    CLAIM(kcas_read(&two[0], 2, &value, &version) == KCAS_DONE && value == 11 && version == 1);
+    CLAIM(kcas_run(&bell, &two[0], waits, NULL) == KCAS_CLOSED && kcas_run(&bell, &two[0], waits_on_nothing, NULL) == KCAS_BAD_OPS);
+    CLAIM(kcas_close(&two[0]) == KCAS_DONE && kcas_run(&bell, &two[0], waits, NULL) == KCAS_CLOSED && kcas_close(&two[1]) == KCAS_DONE);
 }
 
 /* Comes, adds, and leaves, as often as it can. */
@@ -85,6 +116,7 @@ int main(int argc, char **argv) {
     if (rounds > 1000) rounds = 1000;
     counts();
     waiters();
+    bodies();
     comers();
     return 0;
 }

@@ -106,6 +106,28 @@ static void refused(void) {
     one(kcas_at(count, KCAS_SET, 0, 0));
 }
 
+/* An operation that begins an alternative isn't fed, whichever mark came first. */
+static void begins(void) {
+    kcas_op get = kcas_at(count, KCAS_GET, 0, 0), add = kcas_at(count, KCAS_ADD, 0, 0), ops[4] = { get, get, get, get };
+    const kcas_op neither[] = {
+        kcas_or(kcas_fed_a(add, 0)), kcas_fed_a(kcas_or(add), 0), kcas_or(kcas_fed_b(add, 0)), kcas_fed_b(kcas_or(add), 0), kcas_or(kcas_fed_b(kcas_fed_a(add, 0), 0)),
+        kcas_fed_b(kcas_or(kcas_fed_a(add, 0)), 0), kcas_fed_b(kcas_fed_a(kcas_or(add), 0), 0), kcas_or(kcas_fed_a(kcas_or(add), 0)), kcas_or(kcas_fed_a(kcas_say(1), 0)),
+    };
+    for (size_t i = 0; i < sizeof neither / sizeof neither[0]; i++) {
+        CLAIM(neither[i].mark == KCAS_NO_MARK);
+        for (size_t at = 0; at < 4; at++) {
+            ops[at] = neither[i];
+            CLAIM(wrong(ops, 4) == at && kcas_look(&bell, &callers[0], ops, 4, replies, KCAS_MOST_OPS) == KCAS_BAD_OPS);
+            CLAIM(kcas_commit_as_seen(&bell, &callers[0], ops, 4, replies, KCAS_MOST_OPS) == KCAS_BAD_OPS);
+            ops[at] = get;
+        }
+    }
+    /* What says the same twice says it once. */
+    CLAIM(kcas_or(kcas_or(add)).mark == KCAS_OR && kcas_fed_a(kcas_fed_a(add, 0), 0).mark == KCAS_FED_A && kcas_fed_b(kcas_fed_b(add, 0), 0).mark == KCAS_FED_B);
+    CLAIM(kcas_fed_a(kcas_fed_b(add, 0), 0).mark == KCAS_FED_BOTH && kcas_fed_a(kcas_fed_a(kcas_fed_b(add, 0), 0), 0).mark == KCAS_FED_BOTH);
+    CLAIM(is(one(get), KCAS_VALUE, 0));
+}
+
 /* Verbs that wait for room: KCAS_LATER where the others are answered full, and nothing done. */
 static void room(void) {
     const kcas_op fills[] = { kcas_do(jobs, KCAS_ENQ, 1, 0), kcas_do(stack, KCAS_PUSH, 1, 0), kcas_do(table, KCAS_PUT, 0, 1), kcas_do(grown, KCAS_PUT, 0, 1) };
@@ -183,6 +205,7 @@ int main(void) {
     nothing();
     alternatives();
     refused();
+    begins();
     room();
     pool();
     for (size_t i = 0; i < THREADS; i++) CLAIM(kcas_close(&callers[i]) == KCAS_DONE);

@@ -1,4 +1,5 @@
-/* Views: what they answer, that they leave nothing, that what puts is refused; and a sum that stands at one moment while threads move amounts. */
+/* Views: what they answer, that they leave nothing, that what puts is refused; a sum that stands at one moment while threads move amounts; how looks end
+ * whose views are all in vain; and how much of a life is gone. */
 #include "test.h"
 
 enum { THREADS = 4, ACCOUNTS = 8, AMOUNT = 1000 };
@@ -8,6 +9,15 @@ static kcas_object queue, cache;
 static kcas_reply replies[KCAS_MOST_OPS];
 static int rounds;
 static uint32_t changed[THREADS];
+
+/* While it isn't 0, kcas_view answers this and does nothing (-Wl,--wrap=kcas_view); how often is counted. */
+static uint32_t vain, views;
+uint32_t __real_kcas_view(kcas_caller *caller, const kcas_op *ops, size_t count, kcas_reply *replies, size_t room);
+uint32_t __wrap_kcas_view(kcas_caller *caller, const kcas_op *ops, size_t count, kcas_reply *replies, size_t room) {
+    if (vain == 0) return __real_kcas_view(caller, ops, count, replies, room);
+    views++;
+    return vain;
+}
 
 static uint32_t view(const kcas_op *ops, size_t n) { return kcas_view(&callers[0], ops, n, replies, KCAS_MOST_OPS); }
 static uint32_t view_one(kcas_op op) { return view(&op, 1); }
@@ -45,6 +55,40 @@ static void answers(void) {
     CLAIM(kcas_look(&bell, &callers[0], &take, 1, replies, 1) == KCAS_PUTS && kcas_look(&bell, &callers[0], all, 16, replies, 16) == KCAS_DONE);
 }
 
+static uint32_t look(const kcas_op *ops, size_t n) {
+    views = 0;
+    replies[0].kind = 99;
+    return kcas_look(&bell, &callers[0], ops, n, replies, KCAS_MOST_OPS);
+}
+
+/* What only reads is committed behind eight views in vain; what may put ends behind 64. */
+static void in_vain(void) {
+    const uint32_t reads[] = { KCAS_FRONT, KCAS_LEN }, may_put[] = { KCAS_DEQ, KCAS_DEQW, KCAS_ENQW }, puts = version_of(queue.base + 1);
+    for (vain = KCAS_BUSY; vain; vain = vain == KCAS_BUSY ? KCAS_CHANGED : 0) {
+        for (size_t i = 0; i < 3; i++) {
+            kcas_op ops[] = { kcas_at(0, KCAS_GET, 0, 0), kcas_do(queue, i < 2 ? reads[i] : KCAS_LEN, 0, 0), kcas_check(0, KCAS_EQ, 77), kcas_do(queue, may_put[i], 0, 0) };
+            CLAIM(look(ops, 2) == KCAS_DONE && views == 8 && replies[0].value == AMOUNT && look(ops, 3) == KCAS_LATER && views == 8);
+            ops[2] = ops[3];
+            CLAIM(look(ops, 3) == KCAS_CHANGED && views == 64 && replies[0].kind == 99);
+        }
+    }
+    CLAIM(version_of(queue.base + 1) == puts && version_of(0) == 0);
+}
+
+static void life(void) {
+    kcas_caller none = KCAS_CALLER_INIT;
+    kcas_op never = kcas_check(0, KCAS_LT, 0);
+    uint32_t gone = 99;
+    CLAIM(kcas_life(&none, 0, 1, &gone) == KCAS_CLOSED && kcas_life(&callers[0], 256, 1, &gone) == KCAS_BAD_OPS && kcas_life(&callers[0], 250, 7, &gone) == KCAS_BAD_OPS);
+    CLAIM(kcas_life(&callers[0], UINT32_MAX, 2, &gone) == KCAS_BAD_OPS && kcas_life(&callers[0], 0, UINT32_MAX, &gone) == KCAS_BAD_OPS && kcas_life(&callers[0], 0, 0, &gone) == KCAS_BAD_OPS);
+    CLAIM(view_one(never) == KCAS_LATER && kcas_hang(&callers[0]) == KCAS_GOING);
+    while (kcas_hang_step(&callers[0]) == KCAS_GOING) {}
+    CLAIM(kcas_life(&callers[0], 0, 1, &gone) == KCAS_NOT_NOW && gone == 99 && kcas_leave(&callers[0]) == KCAS_LEAVING);
+    while (kcas_hang_step(&callers[0]) == KCAS_LEAVING) {}
+    CLAIM(kcas_life(&callers[0], 0, ACCOUNTS, &gone) == KCAS_DONE && gone >= (uint32_t)rounds / 2);
+    CLAIM(kcas_life(&callers[0], cache.base, 1, &gone) == KCAS_DONE && gone == 0 && kcas_life(&callers[0], 0, 256, &gone) == KCAS_DONE && gone >= (uint32_t)rounds / 2);
+}
+
 /* Moves amounts, and sees the sum of all between. */
 static void *move(void *arg) {
     size_t me = (size_t)arg;
@@ -77,10 +121,11 @@ int main(int argc, char **argv) {
     CLAIM(kcas_opening(&cache, values + cache.base, 256 - cache.base) == KCAS_DONE);
     CLAIM(kcas_open(values, 256, callers, THREADS) == KCAS_DONE);
     answers();
+    in_vain();
     for (size_t i = 0; i < THREADS; i++) pthread_create(&threads[i], NULL, move, (void *)i);
     for (size_t i = 0; i < THREADS; i++) pthread_join(threads[i], NULL), again += changed[i];
     printf("%u views changed\n", again);
-    CLAIM(kcas_life(&callers[0], 0, ACCOUNTS) >= (uint32_t)rounds / 2 && kcas_life(&callers[0], cache.base, 1) == 0 && kcas_life(&callers[0], 0, 0) == 0);
+    life();
     for (size_t i = 0; i < THREADS; i++) CLAIM(kcas_close(&callers[i]) == KCAS_DONE);
     return 0;
 }
