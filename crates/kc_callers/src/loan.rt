@@ -5,7 +5,7 @@ ghost use Rattle.std.specs.Prelude.{◌≡◌};
 use counted_slot::Fits;
 use kc_holder::Taken;
 
-/// That something was lent. It isn't dropped: giving it back alone ends it.
+/// That something was lent. It isn't dropped: what was lent comes back, or is given up for good by name.
 pub struct Loan<X: Fits> {
     pub(crate) place: usize,
     pub(crate) taken: Taken<X>,
@@ -17,5 +17,11 @@ impl<X: Fits> Loan<X> {
         ensures { result ≡ self.now.place }
     {
         self.place
+    }
+
+    /// What was lent is given up for good: its place stays empty.
+    pub fn lose(self) {
+        let Loan { place: _, taken } = self;
+        taken.lose();
     }
 }

@@ -2,7 +2,7 @@
 
 ghost use Rattle.std.specs.Prelude.{◌≡◌, IfSome};
 
-use crate::holder::{FREE, Holder, SLOT, WORD};
+use crate::holder::{FREE, Holder, SLOT, Taken, WORD};
 use counted_slot::Fits;
 
 impl<X: Fits + Drop> Holder<X> {
@@ -19,5 +19,13 @@ impl<X: Fits + Drop> Holder<X> {
             return None;
         }
         value
+    }
+}
+
+impl<X: Fits> Taken<X> {
+    /// The value is given up for good: nobody has it again.
+    pub fn lose(self) {
+        let Taken { seat } = self;
+        drop(seat);
     }
 }

@@ -40,11 +40,11 @@ impl<X: Fits> Model for Holder<X> {
     ghost invariant = { λ h. (h.table.shared.table_id.words ≡ 1) × (h.table.shared.table_id.slots ≡ 1) };
 }
 
-/// That one has the value of a holder. It can't be let go: `give` alone takes it. Contracts see of which holder it is. It has no
+/// That one has the value of a holder. It isn't dropped: it comes back with a value, or is given up for good by name. Contracts see of which holder it is. It has no
 /// bytes.
 #[must_use]
 pub struct Taken<X: Fits> {
-    seat: Seat<Option<X>, X::Tag>,
+    pub(crate) seat: Seat<Option<X>, X::Tag>,
 }
 
 impl<X: Fits> Model for Taken<X> {
