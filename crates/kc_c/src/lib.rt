@@ -15,7 +15,5 @@ mod standing;
 mod structures;
 mod tries;
 mod trying;
-mod viewing;
-mod views;
 mod waiting;
 mod waits;

@@ -13,7 +13,6 @@ mod object;
 mod operation;
 mod reply;
 mod said;
-mod sequence;
 mod verbs;
 
 pub use alone::{Silent, alone_on_location, first_value, told_alone};

@@ -1,4 +1,3 @@
 pub mod Only
 pub mod Keeping
 pub mod Steps
-pub mod Unworn

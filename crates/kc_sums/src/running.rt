@@ -64,9 +64,7 @@ fn view_and_finish<R: Wait>(
     serving_adds_up(bank);
     what_is_known_stays_known();
     let sum = read_all(rt, &store, &mut first, bank)?;
-    let Ok(callers) = both_callers(alloc, first, second) else {
-        return Err(io::ErrorKind::OutOfMemory.into());
-    };
+    let callers = both_callers(alloc, first, second)?;
     Ok((finish_kept(bank, store, callers), sum))
 }
 
