@@ -18,8 +18,10 @@
  * - no call from a signal handler, nor in a child between fork and exec;
  * - all who commit on a store by which some wait use that store's one bell.
  *
- * What a thread did before a commit that put something is seen by a thread behind its try that read what was put, or a later value there:
- * so plain memory may be handed on by a number in the store.
+ * Order. Each access of the library to its words is sequentially consistent. So what a thread did before a try that was answered KCAS_DONE
+ * and put something happens before what another thread does behind a try, a view or a kcas_read that read what was put, or a later value there:
+ * plain memory may be handed on by a number in the store. A try that put nothing (KCAS_LATER, KCAS_LOST, KCAS_BUSY, KCAS_DONE of reads alone)
+ * orders nothing for others, nor does a view; and two tries that share no location order nothing between their threads.
  */
 #ifndef KCAS_H
 #define KCAS_H
@@ -117,7 +119,11 @@ enum {
     KCAS_BUMP, /* a = V, b = a number that picks the cell, as that of a thread: unit */
     KCAS_TOTAL, /* the total, which wraps */
     /* on a stack, queue, table or cache */
-    KCAS_LEN /* how many items or keys */
+    KCAS_LEN, /* how many items or keys */
+    /* on a stack, a queue, a table of either kind, where there may be no room */
+    KCAS_PUSHW, /* as KCAS_PUSH; waits where that is full */
+    KCAS_ENQW, /* as KCAS_ENQ; waits where that is full */
+    KCAS_PUTW /* as KCAS_PUT; waits where that is full */
 };
 
 /* Functions of KCAS_UPDATE and KCAS_MODIFY. */
@@ -127,8 +133,17 @@ enum { KCAS_FUN_ADD = 1, KCAS_FUN_MAX, KCAS_FUN_MIN, KCAS_FUN_AND, KCAS_FUN_OR, 
 enum { KCAS_EQ = 1, KCAS_NE, KCAS_LT, KCAS_LE, KCAS_GT, KCAS_GE };
 
 /* KCAS_OR: this operation begins the next alternative. The alternatives are tried in order; one that would wait is
- * forgotten, with all that it did. A transaction has at most four. */
-enum { KCAS_NEXT = 0, KCAS_OR = 1 };
+ * forgotten, with all that it did. A transaction has at most four.
+ *
+ * KCAS_FED_A: `a` names an operation before this one in its alternative, the alternative's first being 0, and the number is what that
+ * operation replied; KCAS_FED_B: likewise `b`; KCAS_FED_BOTH: both. Where such a reply is no number (empty, say), this operation does nothing, and
+ * replies empty. What names no operation before it is KCAS_BAD_OPS, and so is KCAS_FED_A or KCAS_FED_BOTH of KCAS_SWAP, KCAS_UPDATE,
+ * KCAS_MODIFY and KCAS_CHECK, whose `a` is a location, a function or a relation. kcas_fed_a and kcas_fed_b set the mark. */
+enum { KCAS_NEXT = 0, KCAS_OR = 1, KCAS_FED_A = 2, KCAS_FED_B = 3, KCAS_FED_BOTH = 4 };
+
+/* No mark. An operation that begins an alternative has none before it there, so it can't be fed: kcas_or of one that is fed, or kcas_fed_a or
+ * kcas_fed_b of one that begins an alternative, sets this, and the transaction is KCAS_BAD_OPS. */
+#define KCAS_NO_MARK UINT32_MAX
 
 typedef struct kcas_op {
     uint32_t verb, mark;
@@ -158,6 +173,9 @@ enum {
     KCAS_POOL_WORN = 4, /* the store has no descriptor left, after billions of tries */
     KCAS_LOST = 5, /* another caller was faster: nothing was done; try again */
     KCAS_BUSY = 6, /* given up in time: nothing was done; try again */
+    /* of a view, besides the first three and KCAS_BUSY */
+    KCAS_PUTS = 7, /* it would put something: nothing was done */
+    KCAS_CHANGED = 8, /* what it read has changed since, or a descriptor of another caller stood there: view again */
     /* of a wrong call: nothing was changed */
     KCAS_CLOSED = 16,
     KCAS_IS_OPEN = 17,
@@ -174,6 +192,9 @@ enum {
     KCAS_SIGNALLED = 37
 };
 
+/* How often a location can be put. */
+#define KCAS_LAST_VERSION 2147483647u
+
 enum { KCAS_MOST_LOCATIONS = 65536, KCAS_MOST_CALLERS = 64, KCAS_MOST_OPS = 16, KCAS_MOST_ALTERNATIVES = 4, KCAS_MOST_TOUCHED = 256 };
 
 /* ---- calls of the library ---- */
@@ -187,8 +208,8 @@ uint32_t kcas_cells(const kcas_object *object);
 uint32_t kcas_opening(const kcas_object *object, uint32_t *values, size_t room);
 
 /* Opens a store whose locations have these values, at most 65,536, and each handle as one of its callers, 1 to 64:
- * KCAS_DONE. Or KCAS_IS_OPEN where one of them was open, KCAS_BAD_SIZE, KCAS_NO_MEMORY: then those that were closed are
- * closed, and no memory is kept. */
+ * KCAS_DONE. Or KCAS_BAD_SIZE, by the counts alone: neither values nor handles are looked at; else KCAS_IS_OPEN where one of them was
+ * open; KCAS_NO_MEMORY. Then those that were closed are closed, and no memory is kept. */
 uint32_t kcas_open(const uint32_t *values, size_t count, kcas_caller *callers, size_t callers_count);
 
 /* Closes the handle: KCAS_DONE, or KCAS_CLOSED. The store is freed with its last handle. */
@@ -207,6 +228,14 @@ uint32_t kcas_number(kcas_caller *caller);
  * whose hang this try has ended, at every answer of a try: who waits by hangs has to wake them. */
 uint32_t kcas_try(kcas_caller *caller, const kcas_op *ops, size_t count, kcas_reply *replies, size_t room, uint64_t *wakes);
 
+/* Views the operations once, as one transaction that puts nothing: KCAS_DONE, with replies as by kcas_try, where all that they read stood at one
+ * moment. KCAS_LATER, KCAS_TOO_LARGE; KCAS_PUTS where they would put something (so a KCAS_DEQ of an empty queue is a view, and of
+ * another is not); KCAS_CHANGED where what they read has changed meanwhile, or a descriptor of another caller stood there, though nothing may have
+ * changed; KCAS_BUSY; KCAS_BAD_OPS as by kcas_try. It takes no descriptor, puts nothing, and no other caller loses or waits by it, nor is helped: where
+ * one has stopped amid its try, views of what that would put may be answered KCAS_CHANGED until it goes on, or a try of another ends it. kcas_reads
+ * tells what it read, and one may hang on that. kcas_look below views again. */
+uint32_t kcas_view(kcas_caller *caller, const kcas_op *ops, size_t count, kcas_reply *replies, size_t room);
+
 /* Tries once, as one transaction, to add a number to one location, which wraps: as kcas_try of one KCAS_ADD, for less. At KCAS_DONE
  * *before gets the value that stood there; else it stays. KCAS_BAD_OPS for a location outside of the store. It never answers
  * KCAS_LATER or KCAS_TOO_LARGE. */
@@ -215,7 +244,7 @@ uint32_t kcas_add(kcas_caller *caller, uint32_t location, uint32_t number, uint3
 /* One location and its version, without a transaction: KCAS_DONE; KCAS_BUSY; KCAS_BAD_OPS for a location outside. */
 uint32_t kcas_read(kcas_caller *caller, uint32_t location, uint32_t *value, uint32_t *version);
 
-/* What the last try read, in rising order of location: how many are written. */
+/* What the last try or view read, in rising order of location: how many are written. Behind KCAS_BUSY they may be those of an earlier one. */
 size_t kcas_reads(kcas_caller *caller, kcas_seen *reads, size_t room);
 
 /* A wait for a change of what the last try read, a step a call; kcas_commit_waiting below makes it. kcas_hang begins it:
@@ -235,7 +264,7 @@ const char *kcas_version(void);
 /* The name of an answer, as "KCAS_LATER"; "KCAS_?" for a number that no call answers. */
 const char *kcas_answer_name(uint32_t answer);
 
-/* Which of the operations that kcas_try answered KCAS_BAD_OPS is the first that is wrong, from 0 on; where each is right, `count`: then
+/* Which of the operations that kcas_try or kcas_view answered KCAS_BAD_OPS is the first that is wrong, from 0 on; where each is right, `count`: then
  * there are none, more than 16, or more than there is room for replies. It does nothing, but tries, each
  * time together with a check that never holds: so kcas_reads has nothing of use behind it, and bits may be added to *wakes. */
 size_t kcas_bad_op(kcas_caller *caller, const kcas_op *ops, size_t count, uint64_t *wakes);
@@ -261,11 +290,21 @@ long syscall(long number, ...);
 typedef std::atomic<uint32_t> kcas_word;
 static inline uint32_t kcas_load(kcas_word *word) { return word->load(); }
 static inline uint32_t kcas_plus(kcas_word *word, uint32_t n) { return word->fetch_add(n); }
+static inline int kcas_take(kcas_word *word) {
+    uint32_t free = 0;
+    return word->compare_exchange_strong(free, 1);
+}
+static inline void kcas_leave_off(kcas_word *word) { word->store(0); }
 #else
 #include <stdatomic.h>
 typedef _Atomic uint32_t kcas_word;
 static inline uint32_t kcas_load(kcas_word *word) { return atomic_load(word); }
 static inline uint32_t kcas_plus(kcas_word *word, uint32_t n) { return atomic_fetch_add(word, n); }
+static inline int kcas_take(kcas_word *word) {
+    uint32_t free = 0;
+    return atomic_compare_exchange_strong(word, &free, 1);
+}
+static inline void kcas_leave_off(kcas_word *word) { atomic_store(word, 0); }
 #endif
 
 /* The library isn't built with the sanitizers, so a program that is tells them here what its tries do: each comes behind those before
@@ -337,14 +376,34 @@ static inline kcas_op kcas_do(kcas_object on, uint32_t verb, uint32_t a, uint32_
 static inline kcas_op kcas_at(uint32_t location, uint32_t verb, uint32_t a, uint32_t b) { return kcas_do(kcas_loc(location), verb, a, b); }
 static inline kcas_op kcas_check(uint32_t location, uint32_t relation, uint32_t value) { return kcas_at(location, KCAS_CHECK, relation, value); }
 static inline kcas_op kcas_say(uint32_t value) { return kcas_at(0, KCAS_SAY, value, 0); }
+/* It begins the next alternative. One that is fed can't: that is KCAS_BAD_OPS. */
 static inline kcas_op kcas_or(kcas_op op) {
-    op.mark = KCAS_OR;
+    if (op.mark == KCAS_NEXT) op.mark = KCAS_OR;
+    if (op.mark != KCAS_OR) op.mark = KCAS_NO_MARK;
+    return op;
+}
+static inline uint32_t kcas_fed_mark(uint32_t mark, uint32_t by) {
+    if (mark == KCAS_NEXT || mark == by) return by;
+    if (mark == KCAS_FED_A || mark == KCAS_FED_B || mark == KCAS_FED_BOTH) return KCAS_FED_BOTH;
+    return KCAS_NO_MARK;
+}
+/* Its number `a`, or `b`, is what that operation of its alternative replied. KCAS_BAD_OPS for one that begins an alternative, before which there is
+ * none; and by kcas_fed_a for a KCAS_SWAP, KCAS_UPDATE, KCAS_MODIFY or KCAS_CHECK, whose `a` is no value and no key. */
+static inline kcas_op kcas_fed_a(kcas_op op, uint32_t operation) {
+    op.mark = kcas_fed_mark(op.mark, KCAS_FED_A);
+    op.a = operation;
+    return op;
+}
+static inline kcas_op kcas_fed_b(kcas_op op, uint32_t operation) {
+    op.mark = kcas_fed_mark(op.mark, KCAS_FED_B);
+    op.b = operation;
     return op;
 }
 
-/* Where threads sleep that wait for a change, each at its caller's number. One for a store, all zero at first. */
+/* Where threads sleep that wait for a change, each at its caller's number. One for a store, all zero at first. `ended` is not 0 behind kcas_end. */
 typedef struct kcas_bell {
     kcas_word seats[KCAS_MOST_CALLERS];
+    kcas_word ended;
 } kcas_bell;
 
 /* What a commit seldom comes to lies out of its line. */
@@ -415,13 +474,19 @@ KCAS_SELDOM void kcas_rouse_each(kcas_bell *bell, uint64_t wakes) {
 static inline void kcas_wake(kcas_bell *bell, uint64_t wakes) {
     if (wakes != 0 && bell) kcas_rouse_each(bell, wakes);
 }
+/* Ends all waits by this bell, those that there are and those to come: what would wait by it is answered KCAS_CLOSED from now on. What
+ * needn't wait is done as before, so those who waited may still clear up. Then join them, and close the handles. */
+KCAS_SELDOM void kcas_end(kcas_bell *bell) {
+    kcas_plus(&bell->ended, 1);
+    for (uint32_t i = 0; i < KCAS_MOST_CALLERS; i++) kcas_rouse(&bell->seats[i]);
+}
 /* Lets others go on before the next try, longer each time. */
 static inline void kcas_back_off(uint32_t *pauses) {
     for (uint32_t i = 0; i < *pauses; i++) kcas_pause();
     if (*pauses < 1024) *pauses *= 2;
 }
 /* Whether another try may answer otherwise at once. */
-static inline int kcas_missed(uint32_t answer) { return answer == KCAS_LOST || answer == KCAS_BUSY; }
+static inline int kcas_missed(uint32_t answer) { return answer == KCAS_LOST || answer == KCAS_BUSY || answer == KCAS_CHANGED; }
 
 /* One try, and whose hangs it ended are woken. */
 static inline uint32_t kcas_try_once(kcas_bell *bell, kcas_caller *caller, const kcas_op *ops, size_t count, kcas_reply *replies, size_t room) {
@@ -486,7 +551,7 @@ static inline void kcas_hang_until(kcas_bell *bell, kcas_caller *caller, const s
     if (step == KCAS_HUNG) {
         for (;;) {
             uint32_t seen = kcas_load(&bell->seats[number]);
-            if (kcas_signalled(caller) != KCAS_QUIET || kcas_is_past(until)) break;
+            if (kcas_signalled(caller) != KCAS_QUIET || kcas_load(&bell->ended) || kcas_is_past(until)) break;
             kcas_sleep(&bell->seats[number], seen, until);
         }
         step = kcas_leave(caller);
@@ -496,10 +561,12 @@ static inline void kcas_hang_until(kcas_bell *bell, kcas_caller *caller, const s
 }
 
 /* As kcas_commit, and it waits where it would have to, until a deadline by the monotonic clock (kcas_in makes one): KCAS_LATER only behind it. It
- * tries at least once, and again at each change of what it read. NULL for `until`: it waits on. NULL for the bell: it doesn't wait. */
+ * tries at least once, and again at each change of what it read. NULL for `until`: it waits on. NULL for the bell: it doesn't wait. KCAS_CLOSED
+ * where it would wait and the bell has ended. */
 static inline uint32_t kcas_commit_until(kcas_bell *bell, kcas_caller *caller, const kcas_op *ops, size_t count, kcas_reply *replies, size_t room, const struct timespec *until) {
     uint32_t answer = kcas_commit(bell, caller, ops, count, replies, room);
     while (bell && answer == KCAS_LATER && !kcas_is_past(until)) {
+        if (kcas_load(&bell->ended)) return KCAS_CLOSED;
         kcas_hang_until(bell, caller, until);
         answer = kcas_commit(bell, caller, ops, count, replies, room);
     }
@@ -510,12 +577,145 @@ static inline uint32_t kcas_commit_waiting(kcas_bell *bell, kcas_caller *caller,
     return kcas_commit_until(bell, caller, ops, count, replies, room, NULL);
 }
 
+/* ---- views ---- */
+
+static inline uint32_t kcas_view_once(kcas_caller *caller, const kcas_op *ops, size_t count, kcas_reply *replies, size_t room) {
+    uint32_t answer = kcas_view(caller, ops, count, replies, room);
+    kcas_behind();
+    if (answer == KCAS_DONE) kcas_written(replies, count * sizeof *replies);
+    return answer;
+}
+
+/* Whether an operation puts nothing, whatever stands there. */
+KCAS_SELDOM int kcas_only_reads(const kcas_op *op) {
+    switch (op->verb) {
+    case KCAS_SAY:
+    case KCAS_GET:
+    case KCAS_CHECK:
+    case KCAS_DIFFERS:
+    case KCAS_TOP:
+    case KCAS_FRONT:
+    case KCAS_FIND:
+    case KCAS_MPEEK:
+    case KCAS_AWAIT:
+    case KCAS_RESOLVED:
+    case KCAS_TOTAL:
+    case KCAS_LEN:
+        return 1;
+    default:
+        return 0;
+    }
+}
+/* The views behind a first one that found a change. A view helps nobody who stands in its way; a commit does, so operations that only read are
+ * committed behind eight views. Others end behind 64. */
+KCAS_SELDOM uint32_t kcas_look_on(kcas_bell *bell, kcas_caller *caller, const kcas_op *ops, size_t count, kcas_reply *replies, size_t room, uint32_t answer) {
+    uint32_t pauses = 16;
+    int reads = 1;
+    for (size_t i = 0; i < count; i++) reads = reads && kcas_only_reads(&ops[i]);
+    for (uint32_t views = 1; kcas_missed(answer) && views < (reads ? 8 : 64); views++) {
+        kcas_back_off(&pauses);
+        answer = kcas_view_once(caller, ops, count, replies, room);
+    }
+    if (!reads) return kcas_missed(answer) ? (uint32_t)KCAS_CHANGED : answer;
+    for (; kcas_missed(answer); kcas_back_off(&pauses)) answer = kcas_try_once(bell, caller, ops, count, replies, room);
+    return answer;
+}
+/* Views until what was read has not changed meanwhile: every answer of kcas_view but KCAS_BUSY. It puts nothing.
+ *
+ * Where all operations are such as never put (KCAS_GET, KCAS_FRONT, KCAS_LEN ..), it commits them behind eight views in vain. Then they take a
+ * descriptor and have an entry as other commits do, and KCAS_POOL_WORN is an answer too, but KCAS_CHANGED is none. Where one may put (a KCAS_DEQ of an
+ * empty queue is viewed) it never commits, and ends with KCAS_CHANGED behind 64 views in vain, as it does where another caller has stopped amid its
+ * try: look again, or commit. The bell is for those whom a commit wakes; it may be NULL where nobody waits. */
+static inline uint32_t kcas_look(kcas_bell *bell, kcas_caller *caller, const kcas_op *ops, size_t count, kcas_reply *replies, size_t room) {
+    kcas_enter(caller);
+    uint32_t answer = kcas_view_once(caller, ops, count, replies, room);
+    if (kcas_missed(answer)) answer = kcas_look_on(bell, caller, ops, count, replies, room, answer);
+    kcas_exit(caller);
+    return answer;
+}
+
+/* How much of the life of these locations is gone: at KCAS_DONE *gone gets the greatest version among them, of KCAS_LAST_VERSION; else it stays.
+ * KCAS_CLOSED; KCAS_NOT_NOW for a caller that hangs; KCAS_BAD_OPS where one lies outside, or there are none. Each put of a
+ * location makes its version one more, and behind the last one KCAS_WORN is answered. A location that is put a thousand times a second lasts
+ * for 24 days, one that is put ten million times a second for three and a half minutes. */
+KCAS_SELDOM uint32_t kcas_life(kcas_caller *caller, uint32_t first, uint32_t count, uint32_t *gone) {
+    uint32_t most = 0, value = 0, version = 0, answer = KCAS_BAD_OPS;
+    kcas_enter(caller);
+    for (uint32_t i = 0; i < count; i++) {
+        while ((answer = kcas_read(caller, first + i, &value, &version)) == KCAS_BUSY) kcas_pause();
+        if (answer != KCAS_DONE) break;
+        if (version > most) most = version;
+    }
+    kcas_exit(caller);
+    if (answer == KCAS_DONE) *gone = most;
+    return answer;
+}
+
+/* ---- callers that come and go ---- */
+
+/* A place for one caller, on lines of a cache of its own. */
+typedef struct kcas_place {
+    kcas_caller caller;
+    kcas_word taken;
+    char apart[128 - sizeof(kcas_caller) - sizeof(kcas_word)];
+} kcas_place;
+
+/* The callers of a store that many threads use, each for a while: one that comes late takes a caller that another has left, with its number. All
+ * zero at first. */
+typedef struct kcas_crew {
+    kcas_place places[KCAS_MOST_CALLERS];
+    uint32_t count;
+} kcas_crew;
+
+/* Opens a store for so many callers at a time: as kcas_open. */
+KCAS_SELDOM uint32_t kcas_crew_open(kcas_crew *crew, const uint32_t *values, size_t count, uint32_t callers) {
+    kcas_caller opened[KCAS_MOST_CALLERS];
+    if (callers == 0 || callers > KCAS_MOST_CALLERS) return KCAS_BAD_SIZE;
+    if (crew->count) return KCAS_IS_OPEN;
+    for (uint32_t i = 0; i < callers; i++) opened[i].held = opened[i].busy = 0, opened[i].at = NULL;
+    uint32_t answer = kcas_open(values, count, opened, callers);
+    if (answer != KCAS_DONE) return answer;
+    for (uint32_t i = 0; i < callers; i++) crew->places[i].caller = opened[i];
+    crew->count = callers;
+    return KCAS_DONE;
+}
+/* A caller for this thread, until it leaves; NULL where all are taken. */
+KCAS_SELDOM kcas_caller *kcas_come(kcas_crew *crew) {
+    for (uint32_t i = 0; i < crew->count; i++) {
+        if (kcas_load(&crew->places[i].taken) == 0 && kcas_take(&crew->places[i].taken)) return &crew->places[i].caller;
+    }
+    return NULL;
+}
+/* Gives a caller back that kcas_come gave; no call runs on it, nor does it hang. */
+KCAS_SELDOM void kcas_go(kcas_crew *crew, kcas_caller *caller) {
+    for (uint32_t i = 0; i < crew->count; i++) {
+        if (&crew->places[i].caller == caller) kcas_leave_off(&crew->places[i].taken);
+    }
+}
+/* Closes all callers, where all have gone: KCAS_DONE; else KCAS_NOT_NOW, and nothing is closed. Nobody may come meanwhile. */
+KCAS_SELDOM uint32_t kcas_crew_close(kcas_crew *crew) {
+    for (uint32_t i = 0; i < crew->count; i++) {
+        if (kcas_load(&crew->places[i].taken)) return KCAS_NOT_NOW;
+    }
+    for (uint32_t i = 0; i < crew->count; i++) kcas_close(&crew->places[i].caller);
+    crew->count = 0;
+    return KCAS_DONE;
+}
+
 /* ---- transactions whose next step depends on what they read ---- */
+
+/* An operation that stands so many places further behind: it names the same ones. What names none before it still does. */
+static inline kcas_op kcas_moved(kcas_op op, size_t place, uint32_t by) {
+    if ((op.mark == KCAS_FED_A || op.mark == KCAS_FED_BOTH)) op.a = op.a < place ? op.a + by : UINT32_MAX;
+    if ((op.mark == KCAS_FED_B || op.mark == KCAS_FED_BOTH)) op.b = op.b < place ? op.b + by : UINT32_MAX;
+    return op;
+}
 
 /* Commits these operations at a moment at which all that the last try read has the values that it had then; so the operations of that try would be
  * answered the same. KCAS_LATER where something has changed: then look again, and compute anew. One looks by kcas_commit or the like,
- * at structures too, computes, and acts by this. KCAS_BAD_OPS where reads and operations are more than 16 together, or there is an
- * alternative among them. */
+ * at structures too, computes, and acts by this: not behind a kcas_try or kcas_view that was answered KCAS_BUSY, nor a kcas_look answered KCAS_CHANGED,
+ * for then what kcas_reads tells, and this compares, may be of an earlier one. KCAS_BAD_OPS where reads and operations are more than 16 together, or
+ * there is an alternative among them. */
 static inline uint32_t kcas_commit_as_seen(kcas_bell *bell, kcas_caller *caller, const kcas_op *ops, size_t count, kcas_reply *replies, size_t room) {
     kcas_op all[KCAS_MOST_OPS];
     kcas_reply told[KCAS_MOST_OPS];
@@ -525,8 +725,8 @@ static inline uint32_t kcas_commit_as_seen(kcas_bell *bell, kcas_caller *caller,
     if (reads > KCAS_MOST_OPS || count > KCAS_MOST_OPS - reads || count > room) return KCAS_BAD_OPS;
     for (size_t i = 0; i < reads; i++) all[i] = kcas_check(seen[i].location, KCAS_EQ, seen[i].value);
     for (size_t i = 0; i < count; i++) {
-        if (ops[i].mark != KCAS_NEXT) return KCAS_BAD_OPS;
-        all[reads + i] = ops[i];
+        if (ops[i].mark == KCAS_OR) return KCAS_BAD_OPS;
+        all[reads + i] = kcas_moved(ops[i], i, (uint32_t)reads);
     }
     uint32_t answer = kcas_commit(bell, caller, all, reads + count, told, KCAS_MOST_OPS);
     for (size_t i = 0; i < count && answer == KCAS_DONE; i++) replies[i] = told[reads + i];
@@ -595,18 +795,21 @@ static inline uint32_t kcas_still(kcas_bell *bell, kcas_log *log) {
     return kcas_commit(bell, log->caller, log->ops, reads, replies, KCAS_MOST_OPS);
 }
 
-/* The same, and it waits until one of them has changed where all still stands. */
+/* The same, and it waits until one of them has changed where all still stands; KCAS_CLOSED where it would and the bell has ended. */
 static inline uint32_t kcas_wait_in(kcas_bell *bell, kcas_log *log) {
     uint32_t answer = kcas_still(bell, log);
     if (log->count == 0) return KCAS_BAD_OPS;
-    if (answer == KCAS_DONE) kcas_hang_until(bell, log->caller, NULL);
+    if (answer != KCAS_DONE) return answer;
+    if (kcas_load(&bell->ended)) return KCAS_CLOSED;
+    kcas_hang_until(bell, log->caller, NULL);
     return answer;
 }
 
 /* Runs the body until what it read stood at one moment, and then makes its writes at that moment: KCAS_DONE. The body has no
  * effects but by kcas_write, may run many times, and ends by itself on any values. Where it answers KCAS_WAIT it runs again
- * once something of what it read has changed; where KCAS_STOP, or KCAS_WAIT without a bell, nothing is written: KCAS_LATER. KCAS_BAD_OPS for more
- * than 16 reads and writes, a location outside, a wait on nothing, or another wish than these three; or as kcas_try. */
+ * once something of what it read has changed; where KCAS_STOP, or KCAS_WAIT without a bell, nothing is written: KCAS_LATER. KCAS_CLOSED where it
+ * answers KCAS_WAIT by what stood at one moment, and the bell has ended. KCAS_BAD_OPS for more than 16 reads and writes, a location outside, a wait on
+ * nothing, or another wish than these three; or as kcas_try. */
 static inline uint32_t kcas_run(kcas_bell *bell, kcas_caller *caller, uint32_t (*body)(kcas_log *log, void *with), void *with) {
     for (;;) {
         kcas_log log;

@@ -44,9 +44,14 @@ public:
         return *this;
     }
     transaction &add(const object &on, std::uint32_t verb, std::uint32_t a = 0, std::uint32_t b = 0) { return add(kcas_do(on, verb, a, b)); }
-    // Begins the next alternative with this operation.
+    // Begins the next alternative with this operation. One that is fed can't begin one: then the transaction is refused as KCAS_BAD_OPS.
     transaction &or_else(const op &operation) { return add(kcas_or(operation)); }
     transaction &or_else(const object &on, std::uint32_t verb, std::uint32_t a = 0, std::uint32_t b = 0) { return or_else(kcas_do(on, verb, a, b)); }
+    // The next operation, whose number `a` is what operation `from` of its alternative replied, the alternative's first being 0. That of a KCAS_SWAP,
+    // KCAS_UPDATE, KCAS_MODIFY or KCAS_CHECK can't be.
+    transaction &add_fed(const object &on, std::uint32_t verb, std::uint32_t from, std::uint32_t b = 0) { return add(kcas_fed_a(kcas_do(on, verb, 0, b), from)); }
+    // The same of its number `b`: a value for the key `a`, say.
+    transaction &add_fed_b(const object &on, std::uint32_t verb, std::uint32_t a, std::uint32_t from) { return add(kcas_fed_b(kcas_do(on, verb, a, 0), from)); }
     std::size_t size() const { return count_; }
     const reply &operator[](std::size_t i) const { return replies_[i]; }
 
@@ -77,6 +82,10 @@ public:
     // False where it would wait; a refusal is thrown.
     bool commit(transaction &t) { return checked(t, kcas_commit(bell(), &handle_, t.ops_.data(), t.count_, t.replies_.data(), t.replies_.size())); }
     void commit_waiting(transaction &t) { checked(t, kcas_commit_waiting(bell(), &handle_, t.ops_.data(), t.count_, t.replies_.data(), t.replies_.size())); }
+
+    // Operations that put nothing, at one moment: false where they would wait. Such as would put something are refused. It views; behind eight views
+    // in vain it commits what only reads, with an entry, and behind 64 what may put is refused by KCAS_CHANGED: kcas_look says more.
+    bool look(transaction &t) { return checked(t, kcas_look(bell(), &handle_, t.ops_.data(), t.count_, t.replies_.data(), t.replies_.size())); }
 
     // Waits so long at most: false where it would still wait.
     template <class Number, class Period>
@@ -115,6 +124,16 @@ public:
     bool run(Body &&body) {
         using Called = std::remove_reference_t<Body>;
         return checked(kcas_run(bell(), &handle_, [](kcas_log *log, void *with) -> std::uint32_t { return (*static_cast<Called *>(with))(*log); }, const_cast<void *>(static_cast<const void *>(std::addressof(body)))));
+    }
+
+    // Ends all waits on this store: who waits, or would, is refused by KCAS_CLOSED.
+    void end() { kcas_end(bell()); }
+
+    // How much of the life of these locations is gone, of KCAS_LAST_VERSION. A closed caller is refused, and so are locations outside, or none.
+    std::uint32_t life(std::uint32_t first, std::uint32_t count) {
+        std::uint32_t gone = 0;
+        checked(kcas_life(&handle_, first, count, &gone));
+        return gone;
     }
 
     // For the calls of kcas.h: the handle, and the one bell of its store.

@@ -16,6 +16,7 @@ TOP = os.path.dirname(os.path.dirname(os.path.abspath(__file__)))
 CALLS = ("kinds", "verbs", "reply", "calls")
 SAID = {
     "LOCATION": "LOC", "ACCUMULATOR": "ACC", "EXCHANGE": "XCHG", "POP_WAIT": "POPW", "DEQ_WAIT": "DEQW", "CPUT_WAIT": "CPUTW",
+    "PUSH_WAIT": "PUSHW", "ENQ_WAIT": "ENQW", "PUT_WAIT": "PUTW",
     "MOST_CALLS": "MOST_OPS",
 }
 # In sources alone: what no enum of the header names.

@@ -35,20 +35,21 @@ try() {
     for test in $tests; do
         wrap=()
         [ "$test" = refused ] && wrap=(-Wl,--wrap=malloc,--wrap=realloc,--wrap=free)
+        [ "$test" = views ] && wrap=(-Wl,--wrap=kcas_view)
         "$compiler" -std=c11 -g -O1 -Wall -Wextra -Werror "$@" -I "$top/c" "$top/tools/c/tests/$test.c" "$to/libkcas.a" "${wrap[@]}" -pthread -o "$room/$test"
         ran "$name: $test" "$room/$test" ${rounds:+$rounds}
     done
 }
 
 rounds="${1:-}"
-tests="calls refused adds sums waits soak named deadlines handed"
+tests="calls refused adds sums waits soak named deadlines handed fed views ends stopped"
 try plain gcc
 try checked gcc -DKCAS_CHECKED
 rounds="${1:-5000}"
 try "address and undefined-behaviour sanitizer" gcc -fsanitize=address,undefined -fno-sanitize-recover=all
 try "thread sanitizer" gcc -fsanitize=thread
 # The header tells this one what its own tries have written; the other tests call the library themselves.
-tests="sums waits soak deadlines handed"
+tests="sums waits soak deadlines handed ends stopped"
 try "memory sanitizer" clang -fsanitize=memory
 if has g++ "C++"; then
     g++ -std=c++17 -g -O1 -Wall -Wextra -Werror -I "$top/c" "$top/tools/c/tests/classes.cc" "$to/libkcas.a" -pthread -o "$room/classes"

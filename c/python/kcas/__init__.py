@@ -27,7 +27,8 @@ from . import _numbers
 
 __version__ = "0.9.0"
 
-DONE, LATER, LOST, BUSY, BAD_OPS, BAD_SIZE = 0, 1, 5, 6, 18, 20
+DONE, LATER, LOST, BUSY, PUTS, CHANGED, CLOSED, BAD_OPS, BAD_SIZE = 0, 1, 5, 6, 7, 8, 16, 18, 20
+OR, FED_A, FED_B, FED_BOTH = 1, 2, 3, 4
 GOING, HUNG, LEAVING, QUIET = 32, 33, 34, 36
 MOST_OPS, MOST_ALTERNATIVES = 16, 4
 
@@ -35,6 +36,9 @@ _VERBS, _KINDS, _FUNCTIONS, _RELATIONS = (
     {word: number for number, word in enumerate(words, 1)}
     for words in (_numbers.VERBS, _numbers.KINDS, _numbers.FUNCTIONS, _numbers.RELATIONS)
 )
+
+# What puts nothing, whatever stands there.
+_READS = frozenset(_VERBS[word] for word in "say get check differs top front find mpeek await resolved total len".split())
 
 Relation = Literal["eq", "ne", "lt", "le", "gt", "ge"]
 Function = Literal["add", "max", "min", "and", "or", "xor"]
@@ -106,6 +110,7 @@ def _library() -> ctypes.CDLL:
         ("open", word, [words, size, handle, size]),
         ("close", word, [handle]),
         ("try", word, [handle, ctypes.POINTER(_Op), size, ctypes.POINTER(_Reply), size, wakes]),
+        ("view", word, [handle, ctypes.POINTER(_Op), size, ctypes.POINTER(_Reply), size]),
         ("bad_op", size, [handle, ctypes.POINTER(_Op), size, wakes]),
         ("add", word, [handle, word, word, words, wakes]),
         ("read", word, [handle, word, words, words]),
@@ -136,6 +141,8 @@ _CAUSES = {
     2: "the transaction would touch more than 256 locations",
     3: "a location that it would put has been put 2,147,483,647 times, and is never put again",
     4: "the store has no descriptor left, after billions of tries",
+    7: "the operations would put something, which a view can't",
+    8: "what the operations read was changed at each of 64 views, or another caller stopped amid its commit",
     16: "the caller is closed, or another thread uses it",
     18: "the operations are no transaction of this store",
     19: "there is no memory for a store",
@@ -191,6 +198,31 @@ class Op:
 
     def __init__(self, on: _Object, verb: str, a: int = 0, b: int = 0):
         self.raw = _Op(_VERBS[verb], 0, on, a, b)
+
+    def fed(self, operation: int) -> Op:
+        """Its first number, a value or a key, is what that operation of its alternative replied, the alternative's first being 0. Where that was no
+        number, this one does nothing and replies EMPTY. BadOps for the first of an alternative, and for swap, update, modify and check."""
+        return self._fed(FED_A, _word(operation), self.raw.b)
+
+    def fed_second(self, operation: int) -> Op:
+        """The same of its second number: of a key's value, say, or of the number of an update."""
+        return self._fed(FED_B, self.raw.a, _word(operation))
+
+    def _fed(self, mark: int, a: int, b: int) -> Op:
+        raw, made = self.raw, Op.__new__(Op)
+        made.raw = _Op(raw.verb, mark if raw.mark in (0, mark) else FED_BOTH, raw.on, a, b)
+        return made
+
+    def _moved(self, place: int, by: int) -> Op:
+        """The same behind so many more operations: it is fed by the same ones, and by none where it was by none."""
+        raw, made = self.raw, Op.__new__(Op)
+
+        def moved(at: int) -> int:
+            return at + by if at < place else 0xFFFFFFFF
+
+        a = moved(raw.a) if raw.mark in (FED_A, FED_BOTH) else raw.a
+        made.raw = _Op(raw.verb, raw.mark, raw.on, a, moved(raw.b) if raw.mark in (FED_B, FED_BOTH) else raw.b)
+        return made
 
     def __repr__(self) -> str:
         raw = self.raw
@@ -277,6 +309,10 @@ class Stack(_Counted):
         """FULL where there is no room."""
         return self._op("push", _word(item))
 
+    def pushw(self, item: int) -> Op:
+        """Waits where there is no room."""
+        return self._op("pushw", _word(item))
+
     def pop(self) -> Op:
         """Takes the top item, or EMPTY."""
         return self._op("pop")
@@ -294,6 +330,10 @@ class Queue(_Counted):
     def enq(self, item: int) -> Op:
         """FULL where there is no room."""
         return self._op("enq", _word(item))
+
+    def enqw(self, item: int) -> Op:
+        """Waits where there is no room."""
+        return self._op("enqw", _word(item))
 
     def deq(self) -> Op:
         """Takes the front item, or EMPTY."""
@@ -317,6 +357,10 @@ class Table(_Counted):
     def put(self, key: int, value: int) -> Op:
         """FULL where the key is new and there is no room."""
         return self._op("put", _word(key), _word(value))
+
+    def putw(self, key: int, value: int) -> Op:
+        """Waits where the key is new and there is no room."""
+        return self._op("putw", _word(key), _word(value))
 
     def find(self, key: int) -> Op:
         """The key's value, or EMPTY."""
@@ -444,12 +488,12 @@ def _left(deadline: Optional[float]) -> Optional[float]:
 class Caller:
     """One thread's handle on a store."""
 
-    def __init__(self, handle: _Handle, seats: List[threading.Condition]):
+    def __init__(self, handle: _Handle, seats: List[threading.Condition], ended: threading.Event):
         self._handle = handle
         self._number = _lib.kcas_number(handle)
         # Where each caller of the store sleeps that hangs. A signal is set in the store before its seat is notified, and is looked for with the
         # seat held: so no wake is lost.
-        self._seats = seats
+        self._seats, self._ended = seats, ended
         self._replies = (_Reply * MOST_OPS)()
         self._wakes = ctypes.c_uint64()
         self._before = ctypes.c_uint32()
@@ -460,30 +504,71 @@ class Caller:
         its last caller."""
         _lib.kcas_close(ctypes.byref(self._handle))
 
-    def _try(self, alternatives: Sequence[Sequence[Op]]) -> Optional[List[Reply]]:
+    def _array(self, alternatives: Sequence[Sequence[Op]]) -> ctypes.Array:
         ops = [op.raw for alternative in alternatives for op in alternative]
         if not 0 < len(ops) <= MOST_OPS or len(alternatives) > MOST_ALTERNATIVES or not all(alternatives):
             raise BadOps("a transaction has 1 to 16 operations, in one to four alternatives")
         array = (_Op * len(ops))(*ops)
         at = 0
         for alternative in alternatives:
-            array[at].mark = 1 if at else 0
+            if array[at].mark:
+                raise BadOps("operation %d, %r, is the first of its alternative, so no other can feed it" % (at, alternative[0]), at)
+            array[at].mark = OR if at else 0
             at += len(alternative)
-        while True:
-            answer = _lib.kcas_try(ctypes.byref(self._handle), array, len(ops), self._replies, MOST_OPS, ctypes.byref(self._wakes))
-            self._wake()
-            if answer not in (LOST, BUSY):
-                break
+        return array
+
+    def _told(self, alternatives: Sequence[Sequence[Op]], array: ctypes.Array, answer: int) -> Optional[List[Reply]]:
+        """The replies behind an answer, or None where it would wait."""
         if answer == LATER:
             return None
         if answer == BAD_OPS:
-            wrong = _lib.kcas_bad_op(ctypes.byref(self._handle), array, len(ops), ctypes.byref(self._wakes))
+            wrong = _lib.kcas_bad_op(ctypes.byref(self._handle), array, len(array), ctypes.byref(self._wakes))
             self._wake()
             named = [op for alternative in alternatives for op in alternative][wrong:]
             raise BadOps("operation %d, %r, is none of this store" % (wrong, named[0]) if named else "no transaction of this store", wrong if named else None)
         if answer != DONE:
             raise Refused(answer)
-        return [reply.told() for reply in self._replies[: len(ops)] if reply.kind != 0]
+        return [reply.told() for reply in self._replies[: len(array)] if reply.kind != 0]
+
+    def _try(self, alternatives: Sequence[Sequence[Op]]) -> Optional[List[Reply]]:
+        array = self._array(alternatives)
+        while True:
+            answer = _lib.kcas_try(ctypes.byref(self._handle), array, len(array), self._replies, MOST_OPS, ctypes.byref(self._wakes))
+            self._wake()
+            if answer not in (LOST, BUSY):
+                return self._told(alternatives, array, answer)
+
+    def look(self, *ops: Op) -> List[Reply]:
+        """The replies of operations that put nothing, as of one moment. It raises Refused (KCAS_PUTS) where they would put something. No other
+        caller loses by a view; but behind eight in vain operations that never put are committed, with an entry, and may raise Refused
+        (KCAS_POOL_WORN), and others raise Refused (KCAS_CHANGED) behind 64."""
+        array = self._array([ops])
+        # A view helps nobody who stands in its way; a commit does.
+        only_reads = all(op.raw.verb in _READS for op in ops)
+        for _ in range(8 if only_reads else 64):
+            answer = _lib.kcas_view(ctypes.byref(self._handle), array, len(array), self._replies, MOST_OPS)
+            if answer not in (CHANGED, BUSY):
+                told = self._told([ops], array, answer)
+                break
+        else:
+            if not only_reads:
+                raise Refused(CHANGED)
+            told = self._try([ops])
+        if told is None:
+            raise Waits
+        return told
+
+    def end(self) -> None:
+        """Ends all waits on this store: who waits, or would, gets Refused (KCAS_CLOSED) from now on. What needn't wait is done as before."""
+        self._ended.set()
+        for seat in self._seats:
+            with seat:
+                seat.notify_all()
+
+    def life(self, location: Loc) -> int:
+        """How much of the life of a location is gone: how often it has been put, of 2,147,483,647 times. Refused where there is none such."""
+        self.read(location)
+        return self._version.value
 
     def add(self, location: Loc, number: int) -> int:
         """Adds to a location, which wraps, and answers the value before. It costs less than an operation."""
@@ -525,6 +610,8 @@ class Caller:
                 return told
             if _left(deadline) == 0:
                 raise Waits
+            if self._ended.is_set():
+                raise Refused(CLOSED, "the waits on this store have ended")
             self._hang(deadline)
 
     def _hang(self, deadline: Optional[float]) -> None:
@@ -537,7 +624,7 @@ class Caller:
             return
         try:
             with seat:
-                seat.wait_for(lambda: _lib.kcas_signalled(handle) != QUIET, _left(deadline))
+                seat.wait_for(lambda: self._ended.is_set() or _lib.kcas_signalled(handle) != QUIET, _left(deadline))
         finally:
             step = _lib.kcas_leave(handle)
             while step == LEAVING:
@@ -568,7 +655,7 @@ class Caller:
         if reads + len(ops) > MOST_OPS:
             raise BadOps("%d locations were read, and there are %d operations: at most 16 together" % (reads, len(ops)))
         unchanged = [Loc(_Object(_KINDS["loc"], it.location, 0, 0)).check("eq", it.value) for it in seen[:reads]]
-        told = self._try([unchanged + list(ops)])
+        told = self._try([unchanged + [op._moved(place, reads) for place, op in enumerate(ops)]])
         return None if told is None else told[reads:]
 
 
@@ -581,7 +668,8 @@ def open(layout: Layout, callers: int = 1) -> Iterator[List[Caller]]:
     if answer != DONE:
         raise Refused(answer)
     seats = [threading.Condition() for _ in handles]
-    made = [Caller(handle, seats) for handle in handles]
+    ended = threading.Event()
+    made = [Caller(handle, seats, ended) for handle in handles]
     try:
         yield made
     finally:

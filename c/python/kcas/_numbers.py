@@ -2,7 +2,7 @@
 
 VERBS = (
     "say get set xchg swap cas add incr decr update modify check differs push pop popw top enq deq deqw front put find del"
-    " cput cputw cget cdel mput mtake mpeek resolve await resolved bump total len"
+    " cput cputw cget cdel mput mtake mpeek resolve await resolved bump total len pushw enqw putw"
 ).split()
 KINDS = "loc stack queue table grow cache mvar promise acc".split()
 FUNCTIONS = "add max min and or xor".split()

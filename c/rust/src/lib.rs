@@ -23,6 +23,7 @@
 use std::cell::Cell;
 use std::hint::spin_loop;
 use std::marker::PhantomData;
+use std::sync::atomic::{AtomicBool, Ordering};
 use std::sync::{Arc, Condvar, Mutex};
 use std::time::{Duration, Instant};
 
@@ -98,6 +99,12 @@ impl Seat {
     }
 }
 
+// The seats of a store's callers, and whether its waits have ended.
+struct Seats {
+    each: Vec<Seat>,
+    ended: AtomicBool,
+}
+
 // Each call writes to its handle, so handles of two threads may not lie in one line of a cache.
 #[repr(align(128))]
 struct Alone(Handle);
@@ -106,7 +113,7 @@ struct Alone(Handle);
 pub struct Caller {
     handle: Box<Alone>,
     number: usize,
-    seats: Arc<[Seat]>,
+    seats: Arc<Seats>,
     _one_thread: PhantomData<Cell<()>>,
 }
 
@@ -124,7 +131,10 @@ pub fn open(values: &[u32], callers: usize) -> Result<Vec<Caller>, Refused> {
     let mut handles: Vec<Handle> = (0..callers).map(|_| Handle::CLOSED).collect();
     match unsafe { raw::kcas_open(values.as_ptr(), values.len(), handles.as_mut_ptr(), callers) } {
         DONE => {
-            let seats: Arc<[Seat]> = (0..callers).map(|_| Seat::default()).collect();
+            let seats = Arc::new(Seats {
+                each: (0..callers).map(|_| Seat::default()).collect(),
+                ended: AtomicBool::new(false),
+            });
             let caller = |mut handle| Caller {
                 number: unsafe { raw::kcas_number(&mut handle) } as usize,
                 handle: Box::new(Alone(handle)),
@@ -163,6 +173,35 @@ impl Caller {
         answer
     }
 
+    /// The replies of operations that put nothing, as of one moment, or `None` where they would wait. Refused as [`Refused::Puts`] where they
+    /// would put something. No other caller loses by a view; but behind eight in vain operations that never put are committed, with an
+    /// entry, and may be refused as [`Refused::PoolWorn`], and others are refused as [`Refused::Changed`] behind 64.
+    pub fn look(&mut self, ops: &[Op]) -> Result<Option<Replies>, Refused> {
+        let mut replies = [RawReply::default(); MOST_OPS];
+        let may_commit = ops.iter().all(Op::only_reads);
+        // A view helps nobody who stands in its way; a commit does.
+        for views in 0.. {
+            if views == 64 && !may_commit {
+                break;
+            }
+            let answer = if views < 8 || !may_commit {
+                let handle = &mut self.handle.0;
+                let (first, room) = (replies.as_mut_ptr(), replies.len());
+                unsafe { raw::kcas_view(handle, ops.as_ptr(), ops.len(), first, room) }
+            } else {
+                self.try_once(ops, &mut replies)
+            };
+            match answer {
+                DONE => return Ok(Some(replies.map(Reply::of))),
+                LATER => return Ok(None),
+                CHANGED | LOST | BUSY => spin_loop(),
+                BAD_OPS => return Err(self.bad_ops(ops)),
+                answer => return Err(Refused::of(answer)),
+            }
+        }
+        Err(Refused::Changed)
+    }
+
     /// The same, and it waits where it would have to.
     pub fn commit_waiting(&mut self, ops: &[Op]) -> Result<Replies, Refused> {
         loop {
@@ -194,6 +233,9 @@ impl Caller {
             if tried.is_some() || deadline.is_some_and(|deadline| Instant::now() >= deadline) {
                 return Ok(tried);
             }
+            if self.seats.ended.load(Ordering::SeqCst) {
+                return Err(Refused::Closed);
+            }
             self.hang(deadline);
         }
     }
@@ -208,9 +250,11 @@ impl Caller {
         if step != HUNG {
             return;
         }
-        let seat = &self.seats[self.number];
+        let seat = &self.seats.each[self.number];
         let mut looking = seat.looking.lock().expect("no holder panics");
-        while unsafe { raw::kcas_signalled(handle) } == QUIET {
+        while unsafe { raw::kcas_signalled(handle) } == QUIET
+            && !self.seats.ended.load(Ordering::SeqCst)
+        {
             looking =
                 match deadline.map(|deadline| deadline.saturating_duration_since(Instant::now())) {
                     Some(Duration::ZERO) => break,
@@ -242,10 +286,28 @@ impl Caller {
         let unchanged = seen[..reads]
             .iter()
             .map(|it| Location::at(it.location).check(Relation::Eq, it.value));
-        let all: Vec<Op> = unchanged.chain(ops.iter().copied()).collect();
+        let behind = ops
+            .iter()
+            .enumerate()
+            .map(|(place, op)| op.moved(place, reads));
+        let all: Vec<Op> = unchanged.chain(behind).collect();
         let told = self.commit(&all)?;
         Ok(told
             .map(|told| std::array::from_fn(|i| told.get(reads + i).copied().unwrap_or_default())))
+    }
+
+    /// Ends all waits on this store: who waits, or would, is refused as [`Refused::Closed`] from now on. What needn't wait is done as before.
+    pub fn end(&self) {
+        self.seats.ended.store(true, Ordering::SeqCst);
+        for seat in &self.seats.each {
+            seat.wake();
+        }
+    }
+
+    /// How much of the life of a location is gone: how often it has been put, of 2,147,483,647 times. Refused as [`Refused::BadOps`] for one
+    /// outside of the store.
+    pub fn life(&mut self, location: Location) -> Result<u32, Refused> {
+        Ok(self.seen(location)?.1)
     }
 
     /// One operation, and its reply.
@@ -271,6 +333,11 @@ impl Caller {
 
     /// The value of a location, without a transaction.
     pub fn read(&mut self, location: Location) -> Result<u32, Refused> {
+        Ok(self.seen(location)?.0)
+    }
+
+    // The value of a location, and its version.
+    fn seen(&mut self, location: Location) -> Result<(u32, u32), Refused> {
         let (mut value, mut version) = (0, 0);
         loop {
             match unsafe {
@@ -281,7 +348,7 @@ impl Caller {
                     &mut version,
                 )
             } {
-                DONE => return Ok(value),
+                DONE => return Ok((value, version)),
                 BUSY => spin_loop(),
                 answer => return Err(Refused::of(answer)),
             }
@@ -299,7 +366,7 @@ impl Caller {
     // Wakes those whose hangs a try has ended.
     fn wake(&self, mut wakes: u64) {
         while wakes != 0 {
-            self.seats[wakes.trailing_zeros() as usize].wake();
+            self.seats.each[wakes.trailing_zeros() as usize].wake();
             wakes &= wakes - 1;
         }
     }

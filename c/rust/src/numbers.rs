@@ -49,6 +49,9 @@ pub const RESOLVED: u32 = 34;
 pub const BUMP: u32 = 35;
 pub const TOTAL: u32 = 36;
 pub const LEN: u32 = 37;
+pub const PUSHW: u32 = 38;
+pub const ENQW: u32 = 39;
+pub const PUTW: u32 = 40;
 
 // Functions of UPDATE and MODIFY.
 pub const FUN_ADD: u32 = 1;
@@ -69,6 +72,9 @@ pub const GE: u32 = 6;
 // Marks.
 pub const NEXT: u32 = 0;
 pub const OR: u32 = 1;
+pub const FED_A: u32 = 2;
+pub const FED_B: u32 = 3;
+pub const FED_BOTH: u32 = 4;
 
 // Answers.
 pub const DONE: u32 = 0;
@@ -78,6 +84,9 @@ pub const WORN: u32 = 3;
 pub const POOL_WORN: u32 = 4;
 pub const LOST: u32 = 5;
 pub const BUSY: u32 = 6;
+pub const PUTS: u32 = 7;
+pub const CHANGED: u32 = 8;
+pub const CLOSED: u32 = 16;
 pub const BAD_OPS: u32 = 18;
 pub const NO_MEMORY: u32 = 19;
 pub const BAD_SIZE: u32 = 20;

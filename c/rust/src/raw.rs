@@ -51,6 +51,13 @@ extern "C" {
         room: usize,
         wakes: *mut u64,
     ) -> u32;
+    pub fn kcas_view(
+        caller: *mut Handle,
+        ops: *const Op,
+        count: usize,
+        replies: *mut RawReply,
+        room: usize,
+    ) -> u32;
     pub fn kcas_add(
         caller: *mut Handle,
         location: u32,

@@ -16,6 +16,12 @@ pub enum Refused {
     /// The operations are no transaction of this store: the first that is wrong, from 0 on. `None` where each is right alone, but there are
     /// none of them, or more than 16.
     BadOps(Option<usize>),
+    /// Operations that were to be viewed would put something.
+    Puts,
+    /// Operations that may put something were viewed 64 times in vain: what they read changed, or another caller had stopped amid its commit.
+    Changed,
+    /// It would wait, and the store's waits have ended.
+    Closed,
     /// There is no memory for a store.
     NoMemory,
     /// A store of more than 65,536 locations, of no caller or of more than 64; or a structure of a size that there isn't, or that
@@ -32,6 +38,9 @@ impl Refused {
             WORN => Refused::Worn,
             POOL_WORN => Refused::PoolWorn,
             BAD_OPS => Refused::BadOps(None),
+            PUTS => Refused::Puts,
+            CHANGED => Refused::Changed,
+            CLOSED => Refused::Closed,
             NO_MEMORY => Refused::NoMemory,
             BAD_SIZE => Refused::BadSize,
             other => Refused::Other(other),
@@ -45,6 +54,9 @@ impl Refused {
             Refused::Worn => WORN,
             Refused::PoolWorn => POOL_WORN,
             Refused::BadOps(_) => BAD_OPS,
+            Refused::Puts => PUTS,
+            Refused::Changed => CHANGED,
+            Refused::Closed => CLOSED,
             Refused::NoMemory => NO_MEMORY,
             Refused::BadSize => BAD_SIZE,
             Refused::Other(answer) => answer,

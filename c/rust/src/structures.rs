@@ -36,14 +36,105 @@ impl Op {
     }
 
     /// It begins the next alternative: the first alternative that doesn't wait is done, and the others leave nothing. A transaction has at
-    /// most four.
+    /// most four. One that is fed can't begin one: then the transaction is refused as [`Refused::BadOps`].
     pub fn or(self) -> Op {
-        Op { mark: OR, ..self }
+        let mark = match self.mark {
+            NEXT | OR => OR,
+            _ => NO_MARK,
+        };
+        Op { mark, ..self }
+    }
+
+    /// Its first number, a value or a key, is what that operation of its alternative replied, the alternative's first being 0. Where
+    /// that was no number, this one does nothing and replies `Empty`. One that begins an alternative can't be fed, since none stands
+    /// before it there, nor can this number of `swap`, `update`, `modify` and `check`: the transaction is refused as [`Refused::BadOps`].
+    pub fn fed(self, operation: usize) -> Op {
+        Op {
+            mark: self.mark_fed(FED_A),
+            a: word(operation),
+            ..self
+        }
+    }
+
+    /// The same of its second number: of a key's value, say, or of the number of an `update`.
+    pub fn fed_second(self, operation: usize) -> Op {
+        Op {
+            mark: self.mark_fed(FED_B),
+            b: word(operation),
+            ..self
+        }
+    }
+
+    fn mark_fed(&self, by: u32) -> u32 {
+        match self.mark {
+            NEXT => by,
+            mark if mark == by => by,
+            FED_A | FED_B | FED_BOTH => FED_BOTH,
+            _ => NO_MARK,
+        }
+    }
+
+    fn feeds_a(&self) -> bool {
+        self.mark == FED_A || self.mark == FED_BOTH
+    }
+
+    fn feeds_b(&self) -> bool {
+        self.mark == FED_B || self.mark == FED_BOTH
     }
 
     pub(crate) fn begins_an_alternative(&self) -> bool {
         self.mark == OR
     }
+
+    // The same behind so many more operations: it is fed by the same ones, and by none where it was by none.
+    pub(crate) fn moved(self, place: usize, by: usize) -> Op {
+        let moved = |at: u32| {
+            if (at as usize) < place {
+                at + by as u32
+            } else {
+                u32::MAX
+            }
+        };
+        Op {
+            a: if self.feeds_a() {
+                moved(self.a)
+            } else {
+                self.a
+            },
+            b: if self.feeds_b() {
+                moved(self.b)
+            } else {
+                self.b
+            },
+            ..self
+        }
+    }
+
+    // Whether it puts nothing, whatever stands there.
+    pub(crate) fn only_reads(&self) -> bool {
+        matches!(
+            self.verb,
+            SAY | GET
+                | CHECK
+                | DIFFERS
+                | TOP
+                | FRONT
+                | FIND
+                | MPEEK
+                | AWAIT
+                | RESOLVED
+                | TOTAL
+                | LEN
+        )
+    }
+}
+
+// No mark, which the library refuses: that of an operation which begins an alternative and is fed.
+const NO_MARK: u32 = u32::MAX;
+
+// What is no place of an operation names none.
+fn word(operation: usize) -> u32 {
+    u32::try_from(operation).unwrap_or(u32::MAX)
 }
 
 /// Replies the number: it tells which alternative ran.
@@ -133,6 +224,8 @@ structure! {
     Stack {
         /// `Unit`, or `Full`.
         push(item: u32) = PUSH(item, 0);
+        /// `Unit`; waits where there is no room.
+        pushw(item: u32) = PUSHW(item, 0);
         /// Takes the top item, or `Empty`.
         pop() = POP(0, 0);
         /// Takes the top item; waits where there is none.
@@ -149,6 +242,8 @@ structure! {
     Queue {
         /// `Unit`, or `Full`.
         enq(item: u32) = ENQ(item, 0);
+        /// `Unit`; waits where there is no room.
+        enqw(item: u32) = ENQW(item, 0);
         /// Takes the front item, or `Empty`.
         deq() = DEQ(0, 0);
         /// Takes the front item; waits where there is none.
@@ -172,6 +267,8 @@ structure! {
     Table {
         /// `Unit`, or `Full` where the key is new and there is no room.
         put(key: u32, value: u32) = PUT(key, value);
+        /// `Unit`; waits where the key is new and there is no room.
+        putw(key: u32, value: u32) = PUTW(key, value);
         /// The key's value, or `Empty`.
         find(key: u32) = FIND(key, 0);
         /// Takes the key out, and replies its value, or `Empty`.

@@ -180,3 +180,78 @@ fn no_wake_is_lost() {
     assert_eq!(looker.read(sum), Ok(EACH * (EACH - 1)));
     assert_eq!(looker.one(queue.deq()), Ok(Some(Reply::Empty)));
 }
+
+#[test]
+fn replies_feed_what_comes_behind() {
+    let mut layout = Layout::new();
+    let queue = layout.queue(2).unwrap();
+    let (table, sum) = (layout.table(4, 8).unwrap(), layout.location(0).unwrap());
+    let mut one = open(layout.values(), 1).unwrap().pop().unwrap();
+    let take = [
+        queue.deq(),
+        table.put(0, 0).fed(0).fed_second(0),
+        sum.add(0).fed(0),
+    ];
+    let nothing = one.commit(&take).unwrap().unwrap();
+    assert_eq!(nothing[..3], [Reply::Empty; 3]);
+    one.commit(&[queue.enqw(7), queue.enqw(8)]).unwrap();
+    assert_eq!(one.commit(&[queue.enqw(9)]), Ok(None));
+    let taken = one.commit(&take).unwrap().unwrap();
+    assert_eq!(taken[..3], [Reply::Value(7), Reply::Unit, Reply::Value(0)]);
+    assert_eq!(one.one(table.find(7)), Ok(Some(Reply::Value(7))));
+    assert_eq!(one.read(sum), Ok(7));
+    one.one(sum.get()).unwrap();
+    let moved = one.commit_as_seen(&[say(3), sum.set(0).fed(0)]).unwrap();
+    assert_eq!(moved.unwrap()[1], Reply::Unit);
+    assert_eq!(one.read(sum), Ok(3));
+    let later = [sum.get(), sum.set(0).fed(1)];
+    assert_eq!(one.commit(&later), Err(Refused::BadOps(Some(1))));
+    // One that begins an alternative isn't fed.
+    let add = sum.add(0);
+    for neither in [
+        add.fed(0).or(),
+        add.or().fed(0),
+        add.fed_second(0).or(),
+        add.or().fed_second(0),
+        add.fed(0).fed_second(0).or(),
+        add.fed(0).or().fed_second(0),
+    ] {
+        let ops = [say(1), sum.get(), neither];
+        assert_eq!(one.commit(&ops), Err(Refused::BadOps(Some(2))));
+        assert_eq!(one.look(&ops), Err(Refused::BadOps(Some(2))));
+    }
+    assert_eq!(add.or().or(), add.or());
+    assert_eq!(add.fed(0).fed(0), add.fed(0));
+    assert_eq!(add.fed(0).fed_second(0), add.fed_second(0).fed(0));
+}
+
+#[test]
+fn a_look_puts_nothing() {
+    let mut layout = Layout::new();
+    let (x, queue) = (layout.location(5).unwrap(), layout.queue(2).unwrap());
+    let mut one = open(layout.values(), 1).unwrap().pop().unwrap();
+    let seen = one.look(&[x.get(), queue.len()]).unwrap().unwrap();
+    assert_eq!(seen[..2], [Reply::Value(5), Reply::Value(0)]);
+    assert_eq!(one.look(&[queue.deqw()]), Ok(None));
+    assert_eq!(one.look(&[x.incr()]), Err(Refused::Puts));
+    assert_eq!(one.life(x), Ok(0));
+    one.add(x, 1).unwrap();
+    assert_eq!(one.life(x), Ok(1));
+    assert_eq!(one.life(Location::at(60000)), Err(Refused::BadOps(None)));
+}
+
+#[test]
+fn who_waits_is_told_of_the_end() {
+    let mut layout = Layout::new();
+    let queue = layout.queue(2).unwrap();
+    let mut callers = open(layout.values(), 2).unwrap();
+    let mut waiter = callers.pop().unwrap();
+    let waiting = std::thread::spawn(move || waiter.commit_waiting(&[queue.deqw()]));
+    std::thread::sleep(Duration::from_millis(20));
+    callers[0].end();
+    assert_eq!(waiting.join().unwrap(), Err(Refused::Closed));
+    assert_eq!(
+        callers[0].commit_waiting(&[queue.deqw()]),
+        Err(Refused::Closed)
+    );
+}

@@ -1,7 +1,7 @@
 //! Views that wait.
 
 ghost use Rattle.std.specs.Prelude.{◌≡◌, ◌≤◌, true};
-ghost use Rattle.kc_await.specs.Viewing.{IsViewedAtLast, is_put_off};
+ghost use Rattle.kc_await.specs.Viewing.{HangsThenViews, IsViewedAtLast, is_put_off};
 ghost use Rattle.kc_model.specs.Footprint.{IsBelow};
 ghost use Rattle.kc_store.specs.Knows.{Remembers};
 ghost use Rattle.kc_store.specs.Viewing.{has_reads};
@@ -27,6 +27,7 @@ pub fn view_waiting_into<R: Wait, T: Transact>(
     requires fit { T.is_fit transaction.now }
     requires within { T.end transaction.now ≤ store.now.locations }
     ensures viewed { IsViewedAtLast (limited (T.most transaction.now) (T.meaning transaction.now)) result caller.old footprint.new caller.new }
+    ensures hangs { HangsThenViews (limited (T.most transaction.now) (T.meaning transaction.now)) result caller.old footprint.new caller.new }
     ensures within { has_reads result ≡ true → IsBelow (T.end transaction.now) footprint.new }
     ensures remembers { Remembers caller.old caller.new }
 {

@@ -5,7 +5,7 @@ use Rattle.kc_c.specs.declared.answers.TheConstants.{DONE}
 use Rattle.kc_calls.proofs.Aloud.{told_one}
 use Rattle.kc_calls.proofs.Saying.{op_says}
 use Rattle.kc_calls.specs.Alone.{IsAlone, first_value}
-use Rattle.kc_calls.specs.Meaning.{end_said, program_said}
+use Rattle.kc_calls.specs.Meaning.{end_said, meaning_said}
 use Rattle.kc_calls.specs.Said.{call_said}
 use Rattle.kc_calls.specs.declared.call.Call.TheVariants as call
 use Rattle.kc_loc.specs.Meaning.{loc_end}
@@ -15,7 +15,6 @@ use Rattle.kc_model.specs.declared.footprint.Footprint.{Footprint}
 use Rattle.kc_model.specs.declared.plain_store.TheConstants.{MOST_LOCATIONS}
 use Rattle.kc_model.specs.declared.reply.Item.TheVariants as item
 use Rattle.kc_script_bundle.specs.declared.operation.Op.TheVariants as op
-use Rattle.kc_xt.specs.Program.{meaning}
 
 abbrev add : ℕ → ℕ → LocOp
 add l number = loc.FetchAdd (record { 0 = l }) number
@@ -26,9 +25,9 @@ module _ (locations l number : ℕ) (few : locations ≤ MOST_LOCATIONS) (within
 
   pub add_alone : IsAlone locations (add_words l number ∷ []) (add l number)
   add_alone = record {
-    are = record { few = omega arith; begins = refl; each = ((omega arith, call.Act (op.Loc (add l number)), says, omega (arith, within)), tt); alternatives = omega arith };
+    are = record { few = omega arith; begins = refl; each = ((omega arith, (λ e. absurd (cc)), call.Act (op.Loc (add l number)), says, omega (arith, within)), tt); alternatives = omega arith; fed = (((λ e. absurd (cc)), (λ e. absurd (cc))), tt) };
     count = refl;
-    meaning = ap (λ s. meaning (program_said s)) says;
+    meaning = ap meaning_said says;
     end = let e : end_said (call_said (add_words l number)) ≡ loc_end (add l number) = ap end_said says in omega (arith, e);
     fit = omega (arith, few, within);
     within = omega (arith, within);

@@ -4,5 +4,6 @@ pub mod Openings
 pub mod Reads
 pub mod Standings
 pub mod Structures
+pub mod Sights
 pub mod Tries
 pub mod Waits

@@ -12,12 +12,9 @@ use Rattle.kc_model.specs.declared.plain_store.TheConstants.{MOST_LOCATIONS}
 abbrev pub IsBadSize : List ℕ → List KcasCaller → Type 0
 IsBadSize values handles = (MOST_LOCATIONS < length values) ⊎ ((length handles ≡ 0) ⊎ (MOST_CALLERS < length handles))
 
--- a store was opened, or why not: then no handle is open
-abbrev pub OpensStore : List ℕ → List KcasCaller → ℕ → List KcasCaller → Type 0
-OpensStore values old n new =
-    ((n ≡ DONE) × (¬ IsBadSize values old) × OpensAll values new) ⊎
-    ((n ≡ BAD_SIZE) × IsBadSize values old × (some_open new ≡ false)) ⊎
-    ((n ≡ NO_MEMORY) × (¬ IsBadSize values old) × (some_open new ≡ false))
+-- a store was opened, or there was no memory: then no handle is open
+abbrev pub OpensStore : List ℕ → ℕ → List KcasCaller → Type 0
+OpensStore values n new = ((n ≡ DONE) × OpensAll values new) ⊎ ((n ≡ NO_MEMORY) × (some_open new ≡ false))
 
 abbrev pub number_of_error : OpenError → ℕ
 number_of_error failed.NoMemory = NO_MEMORY

@@ -21,6 +21,12 @@ pub const LOST: u32 = 5;
 /// It was given up, with all its steps made.
 pub const BUSY: u32 = 6;
 
+/// It would put something, which a view can't.
+pub const PUTS: u32 = 7;
+
+/// What a view read has changed since.
+pub const CHANGED: u32 = 8;
+
 /// The handle holds no client.
 pub const CLOSED: u32 = 16;
 

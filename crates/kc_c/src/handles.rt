@@ -1,25 +1,34 @@
 //! What C calls to open and close handles.
 
-ghost use Rattle.std.specs.Prelude.{◌≡◌, ◌==◌, Some, false, true, if◌then◌else◌, length};
-ghost use Rattle.kc_c.specs.Openings.{OpensStore, number_of_error};
+ghost use Rattle.std.specs.Prelude.{◌≡◌, ◌==◌, ◌<◌, ◌⊎◌, ◌↔◌, IsTrue, Some, false, true, if◌then◌else◌, length};
+ghost use Rattle.kc_c.specs.Openings.{IsBadSize, OpensStore, number_of_error};
 ghost use Rattle.kc_c.specs.Clients.{HandleIsClosed, IsOpen, some_open};
 ghost use Rattle.kc_c.specs.Standings.{caller_number_in};
+ghost use Rattle.kc_hang.specs.kc_machine.declared.machine.TheConstants.{MOST_CALLERS};
+ghost use Rattle.kc_model.specs.declared.plain_store.TheConstants.{MOST_LOCATIONS};
 
 use crate::answers::{BAD_SIZE, CLOSED, DONE, IS_OPEN, NO_MEMORY, NO_NUMBER};
 use crate::handle::KcasCaller;
 use crate::opening::{close_all, open_all, some_is_open};
-use kc_model::OpenError;
+use kc_model::{MOST_LOCATIONS, OpenError};
 use std::alloc::Global;
 
-/// Opens a store with these values at its locations, and each handle as one of its callers, in order: DONE. Else all handles are
-/// closed: IS_OPEN where one was open, and then nothing has changed; BAD_SIZE above 65,536 values, for no handle and above 64;
-/// NO_MEMORY.
+// As many handles as a store has callers.
+const MOST_HANDLES: usize = 64;
+
+/// Opens a store with these values at its locations, and each handle as one of its callers, in order: DONE. Else nothing is opened:
+/// BAD_SIZE above 65,536 values, for no handle and above 64, before any is looked at; IS_OPEN where one was open; then nothing changes.
+/// NO_MEMORY, and all handles are closed.
 #[unsafe(no_mangle)]
 pub extern "C" fn kcas_open(alloc: Global, values: &[u32], callers: &mut [KcasCaller]) -> u32
-    ensures is_open { some_open callers.old ≡ true → (result ≡ IS_OPEN) × (callers.new ≡ callers.old) }
-    ensures opens { some_open callers.old ≡ false → OpensStore values.now callers.old result callers.new }
+    ensures size { IsBadSize values.now callers.old → (result ≡ BAD_SIZE) × (callers.new ≡ callers.old) }
+    ensures is_open { ¬ IsBadSize values.now callers.old → some_open callers.old ≡ true → (result ≡ IS_OPEN) × (callers.new ≡ callers.old) }
+    ensures opens { ¬ IsBadSize values.now callers.old → some_open callers.old ≡ false → OpensStore values.now result callers.new }
     ensures count { length callers.new ≡ length callers.old }
 {
+    if is_bad_size(values.len(), callers.len()) {
+        return BAD_SIZE;
+    }
     if some_is_open(callers) {
         return IS_OPEN;
     }
@@ -30,6 +39,12 @@ pub extern "C" fn kcas_open(alloc: Global, values: &[u32], callers: &mut [KcasCa
             number_of_error(error)
         }
     }
+}
+
+fn is_bad_size(values: usize, callers: usize) -> bool
+    ensures { IsTrue result ↔ ((MOST_LOCATIONS < values) ⊎ ((callers ≡ 0) ⊎ (MOST_CALLERS < callers))) }
+{
+    values > MOST_LOCATIONS || callers == 0 || callers > MOST_HANDLES
 }
 
 fn number_of_error(error: OpenError) -> u32

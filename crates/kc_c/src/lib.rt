@@ -15,5 +15,7 @@ mod standing;
 mod structures;
 mod tries;
 mod trying;
+mod viewing;
+mod views;
 mod waiting;
 mod waits;

@@ -3,4 +3,7 @@ pub mod Placing
 pub mod Filling
 pub mod Fits
 pub mod Parts
+pub mod Ends
+pub mod Feeding
+pub mod Room
 pub mod Saying

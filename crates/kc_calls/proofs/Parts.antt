@@ -1,13 +1,13 @@
 -- Alternatives as parts of a list of operations.
-use Rattle.std.proofs.Common.{◌≡◌, ◌≢◌, ℕ, zero, suc, ◌≤◌, max, List, ◌++◌, length, take, drop, refl, sym, ap, ap₂, ◌∙◌, subst}
+use Rattle.std.proofs.Common.{◌≡◌, ◌≢◌, ℕ, zero, suc, ◌≤◌, max, List, ◌++◌, length, take, drop, refl, sym, ap, ap₂, ◌∙◌, subst, arith, length-append}
 use Rattle.std.specs.Prelude.{Result, if◌then◌else◌}
 use Rattle.std.proofs.Common.{eq-eqb, ne_eqb}
 use Rattle.std.proofs.lemmas.List.{take-append-drop}
 use Rattle.kc_calls.specs.Cut.{cut}
-use Rattle.kc_calls.specs.Meaning.{said_meaning, said_end, SaidIsFit, row_meaning, alternatives_meaning, calls_end, CallsAreFit}
+use Rattle.kc_calls.specs.Meaning.{said_end, row_meaning, alternatives_meaning, calls_end, CallsAreFit}
 use Rattle.kc_calls.specs.declared.operation.KcasOp.{KcasOp}
 use Rattle.kc_model.specs.declared.reply.Reply.{Reply}
-use Rattle.kc_term.proofs.Parts.{end-append, fit-left, fit-right}
+use Rattle.kc_term.proofs.Parts.{each-left, each-right, end-append}
 use Rattle.kc_xt.proofs.Composed.{obeys_wider}
 use Rattle.kc_xt.specs.Law.{Obeys}
 use Rattle.kc_xt.specs.Log.{Log}
@@ -30,10 +30,10 @@ module _ (os : List KcasOp) (one : ℕ) (first behind : List KcasOp) (p : IsPart
   whole = ap₂ (λ xs ys. xs ++ ys) p.front p.back ∙ take-append-drop one os
 
   pub first_fits : CallsAreFit os → CallsAreFit first
-  first_fits h = fit-left SaidIsFit said_meaning first behind (subst CallsAreFit (sym whole) h)
+  first_fits h = let g = subst CallsAreFit (sym whole) h in record { few = omega (arith, g.few, length-append first behind); each = each-left _ first behind g.each }
 
   pub behind_fits : CallsAreFit os → CallsAreFit behind
-  behind_fits h = fit-right SaidIsFit said_meaning first behind (subst CallsAreFit (sym whole) h)
+  behind_fits h = let g = subst CallsAreFit (sym whole) h in record { few = omega (arith, g.few, length-append first behind); each = each-right _ first behind g.each }
 
   pub ends : calls_end os ≡ max (calls_end first) (calls_end behind)
   ends = ap calls_end (sym whole) ∙ end-append said_end first behind

@@ -1,15 +1,15 @@
 -- What C's numbers say.
 use Rattle.std.proofs.Common.{◌≡◌, ◌==◌, ◌≤◌, ◌+◌, Bool, true, false, cond, Option, Some, None, IfSome, refl, sym, ap, ◌∙◌, arith, eq-eqb, eqb-true}
 use Rattle.std.proofs.lemmas.Bool.{cond-true}
-use Rattle.std.specs.Option.{option_map, option_and_then}
+use Rattle.std.specs.Option.{option_map, option_and_then, option_or}
 use Rattle.kc_calls.proofs.Placing.{laid_is, stack_laid, queue_laid, table_laid, grow_laid, cache_laid, mvar_laid, promise_laid, accumulator_laid}
-use Rattle.kc_calls.specs.Said.{call_said, done_to, fun_said, rel_said, loc_said}
+use Rattle.kc_calls.specs.Said.{call_said, done_to, fun_said, rel_said, loc_said, waits_for_room}
 use Rattle.kc_calls.specs.Structures.{structure_of, location_at}
-use Rattle.kc_calls.specs.Words.{call_loc_words, object_words, fun_number, fun_with, rel_number, loc_op_words, call_stack_words, call_queue_words, call_table_words, grow_words, call_cache_words, call_mvar_words, call_promise_words, accumulator_words, op_words, IsSayable}
+use Rattle.kc_calls.specs.Words.{call_words, call_loc_words, object_words, fun_number, fun_with, rel_number, loc_op_words, call_stack_words, call_queue_words, call_table_words, grow_words, call_cache_words, call_mvar_words, call_promise_words, accumulator_words, op_words, waiting_words, IsSayable}
 use Rattle.kc_calls.specs.declared.call.Call.TheVariants as call
 use Rattle.kc_calls.specs.declared.kinds.TheConstants.{LOCATION}
 use Rattle.kc_calls.specs.declared.operation.KcasOp.{KcasOp}
-use Rattle.kc_calls.specs.declared.verbs.TheConstants.{SAY}
+use Rattle.kc_calls.specs.declared.verbs.TheConstants.{SAY, PUSH_WAIT, ENQ_WAIT, PUT_WAIT}
 use Rattle.kc_cache.specs.declared.cache.Cache.{Cache}
 use Rattle.kc_cache.specs.declared.operation.CacheAct.{CacheAct}
 use Rattle.kc_cache.specs.declared.operation.CacheAct.TheVariants as cache
@@ -94,7 +94,7 @@ module _ (o : KcasOp) (kind : o.on.kind ≡ LOCATION) (room : o.on.base + 1 ≤ 
     where
       by : (t : Bool) → (o.verb == SAY) ≡ t → Says o (op.Loc p)
       by true f = absurd (let g : Some p ≡ None = e ∙ ap (λ v. loc_said (record { 0 = o.on.base }) v o.a o.b) (eqb-true o.verb SAY f) in cc)
-      by false f = by_structure o _ structure_said f ∙ ap (λ x. option_map call.Act (option_map op.Loc x)) (sym e)
+      by false f = by_structure o _ structure_said f ∙ ap (λ x. option_or (option_map call.Act (option_map op.Loc x)) (option_map call.WaitForRoom (waits_for_room (object.Loc (record { 0 = o.on.base }) 0) o.verb o.a o.b))) (sym e)
 
 loc_says : (o : LocOp) → LocIsFit o → Says (loc_op_words o) (op.Loc o)
 unfolding done_to
@@ -106,9 +106,9 @@ loc_says (loc.Cas l before after) h = by_structure (loc_op_words (loc.Cas l befo
 loc_says (loc.FetchAdd l n) h = by_structure (loc_op_words (loc.FetchAdd l n)) (object.Loc l 0) (at_loc l (omega (arith, h))) refl
 loc_says (loc.Incr l) h = by_structure (loc_op_words (loc.Incr l)) (object.Loc l 0) (at_loc l (omega (arith, h))) refl
 loc_says (loc.Decr l) h = by_structure (loc_op_words (loc.Decr l)) (object.Loc l 0) (at_loc l (omega (arith, h))) refl
-loc_says (loc.Update l f) h = by_structure (loc_op_words (loc.Update l f)) (object.Loc l 0) (at_loc l (omega (arith, h))) refl ∙ ap (λ g. option_map call.Act (option_map op.Loc (option_map (loc.Update l) g))) (fun_says f)
-loc_says (loc.Modify l f) h = by_structure (loc_op_words (loc.Modify l f)) (object.Loc l 0) (at_loc l (omega (arith, h))) refl ∙ ap (λ g. option_map call.Act (option_map op.Loc (option_map (loc.Modify l) g))) (fun_says f)
-loc_says (loc.Check l r n) h = by_structure (loc_op_words (loc.Check l r n)) (object.Loc l 0) (at_loc l (omega (arith, h))) refl ∙ ap (λ q. option_map call.Act (option_map op.Loc (option_map (λ x. loc.Check l x n) q))) (rel_says r)
+loc_says (loc.Update l f) h = by_structure (loc_op_words (loc.Update l f)) (object.Loc l 0) (at_loc l (omega (arith, h))) refl ∙ ap (λ g. option_or (option_map call.Act (option_map op.Loc (option_map (loc.Update l) g))) None) (fun_says f)
+loc_says (loc.Modify l f) h = by_structure (loc_op_words (loc.Modify l f)) (object.Loc l 0) (at_loc l (omega (arith, h))) refl ∙ ap (λ g. option_or (option_map call.Act (option_map op.Loc (option_map (loc.Modify l) g))) None) (fun_says f)
+loc_says (loc.Check l r n) h = by_structure (loc_op_words (loc.Check l r n)) (object.Loc l 0) (at_loc l (omega (arith, h))) refl ∙ ap (λ q. option_or (option_map call.Act (option_map op.Loc (option_map (λ x. loc.Check l x n) q))) None) (rel_says r)
 
 -- ---- structures
 
@@ -178,3 +178,50 @@ op_says (op.Mvar o) h = mvar_says o.mvar o.act h
 op_says (op.Promise o) h = promise_says o.promise o.act h
 op_says (op.Acc o) h = accumulator_says o.acc o.act h
 op_says (op.Cancel c) h = absurd h
+
+-- ---- those that wait for room
+
+abbrev SaysToWait : Option KcasOp → Op → Type 0
+SaysToWait w o = IfSome w (λ x. call_said x ≡ Some (call.WaitForRoom o))
+
+stack_waits : (s : Stack) (act : StackAct) → IsSized (object.Stack s) → SaysToWait (waiting_words (op.Stack (record { stack = s; act = act }))) (op.Stack (record { stack = s; act = act }))
+unfolding done_to structure_of
+stack_waits s (stack.Push v) h = by_structure (call_words (object_words (object.Stack s)) PUSH_WAIT v 0) (object.Stack s) (stack_laid s _ _ refl refl h.0 h.1) refl
+stack_waits s stack.Pop h = tt
+stack_waits s stack.PopWait h = tt
+stack_waits s stack.Top h = tt
+stack_waits s stack.Len h = tt
+
+queue_waits : (q : Queue) (act : QueueAct) → IsSized (object.Queue q) → SaysToWait (waiting_words (op.Queue (record { queue = q; act = act }))) (op.Queue (record { queue = q; act = act }))
+unfolding done_to structure_of
+queue_waits q (queue.Enq v) h = by_structure (call_words (object_words (object.Queue q)) ENQ_WAIT v 0) (object.Queue q) (queue_laid q _ _ refl refl h.1) refl
+queue_waits q queue.Deq h = tt
+queue_waits q queue.DeqWait h = tt
+queue_waits q queue.Front h = tt
+queue_waits q queue.Len h = tt
+
+table_waits : (t : Hash) (act : HashAct) → IsSized (object.Hash t) → SaysToWait (waiting_words (op.Hash (record { hash = t; act = act }))) (op.Hash (record { hash = t; act = act }))
+unfolding done_to structure_of
+table_waits t (table.Put k v) h = by_structure (call_words (object_words (object.Hash t)) PUT_WAIT k v) (object.Hash t) (table_laid t _ _ _ refl refl refl h.1 h.3) refl
+table_waits t (table.Find k) h = tt
+table_waits t (table.Del k) h = tt
+table_waits t table.Len h = tt
+
+grow_waits : (g : Grow) (act : GrowAct) → IsSized (object.Grow g) → SaysToWait (waiting_words (op.Grow (record { grow = g; act = act }))) (op.Grow (record { grow = g; act = act }))
+unfolding done_to structure_of
+grow_waits g (grow.Put k v) h = by_structure (call_words (object_words (object.Grow g)) PUT_WAIT k v) (object.Grow g) (grow_laid g _ _ refl refl h.1) refl
+grow_waits g (grow.Find k) h = tt
+grow_waits g (grow.Del k) h = tt
+grow_waits g grow.Len h = tt
+
+pub op_waits : (o : Op) → IsSayable o → SaysToWait (waiting_words o) o
+op_waits (op.Loc o) h = tt
+op_waits (op.Stack o) h = stack_waits o.stack o.act h
+op_waits (op.Queue o) h = queue_waits o.queue o.act h
+op_waits (op.Mvar o) h = tt
+op_waits (op.Promise o) h = tt
+op_waits (op.Acc o) h = tt
+op_waits (op.Hash o) h = table_waits o.hash o.act h
+op_waits (op.Grow o) h = grow_waits o.grow o.act h
+op_waits (op.Cache o) h = tt
+op_waits (op.Cancel c) h = tt

@@ -1,6 +1,7 @@
 pub mod Structures
 pub mod Said
 pub mod Words
+pub mod Fed
 pub mod Meaning
 pub mod Cut
 pub mod Operations

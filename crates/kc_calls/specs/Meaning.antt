@@ -1,42 +1,46 @@
 -- What C's operations mean, as one transaction.
-use Rattle.std.specs.Prelude.{ℕ, zero, suc, ◌==◌, ⊤, List, [], ◌∷◌, if◌then◌else◌, length, take, drop, Option, Some, None}
+use Rattle.std.specs.Prelude.{◌≡◌, ℕ, zero, suc, ◌==◌, ◌≤◌, ⊤, List, [], ◌∷◌, ◌++◌, if◌then◌else◌, length, take, drop, Option, Some, None}
 use Rattle.kc_calls.specs.Cut.{cut}
+use Rattle.kc_calls.specs.Fed.{MayBeFed, fed}
 use Rattle.kc_calls.specs.Said.{call_said}
 use Rattle.kc_calls.specs.declared.call.Call.{Call}
 use Rattle.kc_calls.specs.declared.call.Call.TheVariants as call
+use Rattle.kc_calls.specs.declared.calls.TheConstants.{MOST_CALLS}
 use Rattle.kc_calls.specs.declared.operation.KcasOp.{KcasOp}
+use Rattle.kc_calls.specs.declared.verbs.TheConstants.{FED_BOTH}
+use Rattle.kc_model.specs.declared.plain_store.TheConstants.{MOST_LOCATIONS}
+use Rattle.kc_model.specs.declared.reply.Item.{Item}
 use Rattle.kc_model.specs.declared.reply.Reply.TheVariants as reply
-use Rattle.kc_script_bundle.specs.Meaning.{op_program, op_end, OpIsFit}
-use Rattle.kc_model.specs.declared.reply.Reply.{Reply}
-use Rattle.kc_term.specs.Fit.{AreFit}
-use Rattle.kc_term.specs.Meaning.{parts_meaning, greatest_end}
-use Rattle.kc_term.specs.Row.{row_of}
-use Rattle.kc_term.specs.Tree.{trees}
-use Rattle.kc_xt.specs.Meaning.{Meaning, first_meaning}
-use Rattle.kc_xt.specs.Program.{Program, replies, retries, meaning}
+use Rattle.kc_compose.specs.Meaning.{wait_meaning}
+use Rattle.kc_compose.specs.declared.sort.Sort.TheVariants.{Full}
+use Rattle.kc_script_bundle.specs.Meaning.{op_meaning, op_end, OpIsFit}
+use Rattle.kc_term.specs.Fit.{Each}
+use Rattle.kc_term.specs.Meaning.{greatest_end, items_of}
+use Rattle.kc_xt.specs.Meaning.{Meaning, first_meaning, then_meaning}
+use Rattle.kc_xt.specs.Program.{replies, retries, meaning}
 
 -- ---- one operation
 
-abbrev pub call_program : Call → (Reply → Program) → Program
-call_program (call.Say n) k = k (reply.Value n)
-call_program (call.Act o) k = op_program o k
-
 abbrev pub call_meaning : Call → Meaning
-call_meaning c = meaning (call_program c replies)
+call_meaning (call.Say n) = meaning (replies (reply.Value n))
+call_meaning (call.Act o) = op_meaning o
+call_meaning (call.WaitForRoom o) = wait_meaning Full (op_meaning o)
 
 -- a number above its locations
 abbrev pub call_end : Call → ℕ
 call_end (call.Say n) = 0
 call_end (call.Act o) = op_end o
+call_end (call.WaitForRoom o) = op_end o
 
 abbrev pub CallIsFit : Call → Type 0
 CallIsFit (call.Say n) = ⊤
 CallIsFit (call.Act o) = OpIsFit o
+CallIsFit (call.WaitForRoom o) = OpIsFit o
 
 -- what C says may be none, and is not run then
-abbrev pub program_said : Option Call → Program
-program_said (Some c) = call_program c replies
-program_said None = retries
+abbrev pub meaning_said : Option Call → Meaning
+meaning_said (Some c) = call_meaning c
+meaning_said None = meaning retries
 
 abbrev pub end_said : Option Call → ℕ
 end_said (Some c) = call_end c
@@ -47,7 +51,7 @@ FitIfSaid (Some c) = CallIsFit c
 FitIfSaid None = ⊥
 
 abbrev pub said_meaning : KcasOp → Meaning
-said_meaning o = meaning (program_said (call_said o))
+said_meaning o = meaning_said (call_said o)
 
 abbrev pub said_end : KcasOp → ℕ
 said_end o = end_said (call_said o)
@@ -55,11 +59,24 @@ said_end o = end_said (call_said o)
 abbrev pub SaidIsFit : KcasOp → Type 0
 SaidIsFit o = FitIfSaid (call_said o)
 
+-- it says an operation on cells below this number, has a mark that there is, and is fed no location, function or relation
+abbrev pub IsOperation : ℕ → KcasOp → Type 0
+IsOperation locations o = (o.mark ≤ FED_BOTH) × MayBeFed o × (c : Call) × (call_said o ≡ Some c) × (call_end c ≤ locations)
+
 -- ---- all of them
 
--- one after another; the reply has an item for each
+-- an operation; where it was to be fed what is no number, it does nothing, and replies that there is nothing
+abbrev pub meaning_fed : Option KcasOp → Meaning
+meaning_fed (Some o) = said_meaning o
+meaning_fed None = meaning (replies reply.Empty)
+
+-- one after another, behind some that replied these items; the reply has an item for each
+abbrev pub row_behind : List KcasOp → List Item → Meaning
+row_behind [] items = meaning (replies (reply.Many items))
+row_behind (o ∷ os) items = then_meaning (meaning_fed (fed items o)) (λ a. row_behind os (items ++ items_of a))
+
 abbrev pub row_meaning : List KcasOp → Meaning
-row_meaning os = parts_meaning said_meaning (trees (row_of os)) []
+row_meaning os = row_behind os []
 
 -- the first alternative, and where it would wait those behind it, so many at most
 unfoldable pub alternatives_meaning : ℕ → List KcasOp → Meaning
@@ -74,5 +91,7 @@ calls_meaning os = alternatives_meaning 3 os
 abbrev pub calls_end : List KcasOp → ℕ
 calls_end os = greatest_end said_end os
 
-abbrev pub CallsAreFit : List KcasOp → Type 0
-CallsAreFit os = AreFit SaidIsFit said_meaning os
+-- not too many, each an operation of the largest store
+pub record CallsAreFit (os : List KcasOp) : Type 0 where
+  pub few : length os ≤ MOST_CALLS
+  pub each : Each (IsOperation MOST_LOCATIONS) os

@@ -1,11 +1,11 @@
 -- Which operation C says: by its verb, with the numbers that stand with it.
 use Rattle.std.specs.Prelude.{ℕ, ◌==◌, cond, Option, Some, None}
-use Rattle.std.specs.Option.{option_map, option_and_then}
+use Rattle.std.specs.Option.{option_map, option_and_then, option_or}
 use Rattle.kc_calls.specs.Structures.{structure_of}
 use Rattle.kc_calls.specs.declared.call.Call.{Call}
 use Rattle.kc_calls.specs.declared.call.Call.TheVariants as call
 use Rattle.kc_calls.specs.declared.operation.KcasOp.{KcasOp}
-use Rattle.kc_calls.specs.declared.verbs.TheConstants.{SAY, GET, SET, EXCHANGE, SWAP, CAS, ADD, INCR, DECR, UPDATE, MODIFY, CHECK, DIFFERS, PUSH, POP, POP_WAIT, TOP, ENQ, DEQ, DEQ_WAIT, FRONT, PUT, FIND, DEL, CPUT, CPUT_WAIT, CGET, CDEL, MPUT, MTAKE, MPEEK, RESOLVE, AWAIT, RESOLVED, BUMP, TOTAL, LEN, FUN_ADD, FUN_MAX, FUN_MIN, FUN_AND, FUN_OR, FUN_XOR, EQ, NE, LT, LE, GT, GE}
+use Rattle.kc_calls.specs.declared.verbs.TheConstants.{SAY, GET, SET, EXCHANGE, SWAP, CAS, ADD, INCR, DECR, UPDATE, MODIFY, CHECK, DIFFERS, PUSH, POP, POP_WAIT, TOP, ENQ, DEQ, DEQ_WAIT, FRONT, PUT, FIND, DEL, CPUT, CPUT_WAIT, CGET, CDEL, MPUT, MTAKE, MPEEK, RESOLVE, AWAIT, RESOLVED, BUMP, TOTAL, LEN, PUSH_WAIT, ENQ_WAIT, PUT_WAIT, FUN_ADD, FUN_MAX, FUN_MIN, FUN_AND, FUN_OR, FUN_XOR, EQ, NE, LT, LE, GT, GE}
 use Rattle.kc_cache.specs.declared.operation.CacheAct.{CacheAct}
 use Rattle.kc_cache.specs.declared.operation.CacheAct.TheVariants as cache
 use Rattle.kc_cells.specs.declared.accumulator.AccAct.{AccAct}
@@ -136,8 +136,18 @@ acted (object.Mvar x) verb a b = option_map (λ act. op.Mvar (record { mvar = x;
 acted (object.Promise p) verb a b = option_map (λ act. op.Promise (record { promise = p; act = act })) (promise_said verb a)
 acted (object.Acc x) verb a b = option_map (λ act. op.Acc (record { acc = x; act = act })) (accumulator_said verb a b)
 
+-- the verb that does the same, and replies that there is no room where this one waits
+abbrev pub plain_verb : ℕ → Option ℕ
+plain_verb verb =
+    cond (verb == PUSH_WAIT) (Some PUSH)
+    (cond (verb == ENQ_WAIT) (Some ENQ)
+    (cond (verb == PUT_WAIT) (Some PUT) None))
+
+abbrev pub waits_for_room : Object → ℕ → ℕ → ℕ → Option Op
+waits_for_room s verb a b = option_and_then (λ plain. acted s plain a b) (plain_verb verb)
+
 unfoldable pub done_to : Object → ℕ → ℕ → ℕ → Option Call
-done_to s verb a b = option_map call.Act (acted s verb a b)
+done_to s verb a b = option_or (option_map call.Act (acted s verb a b)) (option_map call.WaitForRoom (waits_for_room s verb a b))
 
 -- the operation, if it is one
 unfoldable pub call_said : KcasOp → Option Call

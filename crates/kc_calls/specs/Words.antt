@@ -1,9 +1,9 @@
 -- The numbers by which C says each operation.
-use Rattle.std.specs.Prelude.{ℕ}
+use Rattle.std.specs.Prelude.{ℕ, Option, Some, None}
 use Rattle.kc_calls.specs.declared.kinds.TheConstants.{LOCATION, STACK, QUEUE, TABLE, GROW, CACHE, MVAR, PROMISE, ACCUMULATOR}
 use Rattle.kc_calls.specs.declared.object.KcasObject.{KcasObject}
 use Rattle.kc_calls.specs.declared.operation.KcasOp.{KcasOp}
-use Rattle.kc_calls.specs.declared.verbs.TheConstants.{NEXT, SAY, GET, SET, EXCHANGE, SWAP, CAS, ADD, INCR, DECR, UPDATE, MODIFY, CHECK, PUSH, POP, POP_WAIT, TOP, ENQ, DEQ, DEQ_WAIT, FRONT, PUT, FIND, DEL, CPUT, CPUT_WAIT, CGET, CDEL, MPUT, MTAKE, MPEEK, RESOLVE, AWAIT, RESOLVED, BUMP, TOTAL, LEN, FUN_ADD, FUN_MAX, FUN_MIN, FUN_AND, FUN_OR, FUN_XOR, EQ, NE, LT, LE, GT, GE}
+use Rattle.kc_calls.specs.declared.verbs.TheConstants.{NEXT, SAY, GET, SET, EXCHANGE, SWAP, CAS, ADD, INCR, DECR, UPDATE, MODIFY, CHECK, PUSH, POP, POP_WAIT, TOP, ENQ, DEQ, DEQ_WAIT, FRONT, PUT, FIND, DEL, CPUT, CPUT_WAIT, CGET, CDEL, MPUT, MTAKE, MPEEK, RESOLVE, AWAIT, RESOLVED, BUMP, TOTAL, LEN, PUSH_WAIT, ENQ_WAIT, PUT_WAIT, FUN_ADD, FUN_MAX, FUN_MIN, FUN_AND, FUN_OR, FUN_XOR, EQ, NE, LT, LE, GT, GE}
 use Rattle.kc_cache.specs.declared.operation.CacheAct.{CacheAct}
 use Rattle.kc_cache.specs.declared.operation.CacheAct.TheVariants as cache
 use Rattle.kc_cells.specs.declared.accumulator.AccAct.{AccAct}
@@ -146,6 +146,26 @@ abbrev pub accumulator_words : KcasObject → AccAct → KcasOp
 accumulator_words on (acc.Bump cell v) = call_words on BUMP v cell
 accumulator_words on acc.Total = call_words on TOTAL 0 0
 
+-- ---- operations that wait for room
+
+abbrev push_waits : KcasObject → StackAct → Option KcasOp
+push_waits on (stack.Push v) = Some (call_words on PUSH_WAIT v 0)
+push_waits on _ = None
+
+abbrev enq_waits : KcasObject → QueueAct → Option KcasOp
+enq_waits on (queue.Enq v) = Some (call_words on ENQ_WAIT v 0)
+enq_waits on _ = None
+
+abbrev put_waits : KcasObject → HashAct → Option KcasOp
+put_waits on (table.Put k v) = Some (call_words on PUT_WAIT k v)
+put_waits on _ = None
+
+abbrev grow_put_waits : KcasObject → GrowAct → Option KcasOp
+grow_put_waits on (grow.Put k v) = Some (call_words on PUT_WAIT k v)
+grow_put_waits on _ = None
+
+-- ---- all of them
+
 -- of a cancel there are none
 abbrev pub op_words : Op → KcasOp
 op_words (op.Loc o) = loc_op_words o
@@ -158,6 +178,14 @@ op_words (op.Mvar o) = call_mvar_words (object_words (object.Mvar o.mvar)) o.act
 op_words (op.Promise o) = call_promise_words (object_words (object.Promise o.promise)) o.act
 op_words (op.Acc o) = accumulator_words (object_words (object.Acc o.acc)) o.act
 op_words (op.Cancel c) = say_words 0
+
+-- where it may find no room: the same, which waits then
+abbrev pub waiting_words : Op → Option KcasOp
+waiting_words (op.Stack o) = push_waits (object_words (object.Stack o.stack)) o.act
+waiting_words (op.Queue o) = enq_waits (object_words (object.Queue o.queue)) o.act
+waiting_words (op.Hash o) = put_waits (object_words (object.Hash o.hash)) o.act
+waiting_words (op.Grow o) = grow_put_waits (object_words (object.Grow o.grow)) o.act
+waiting_words _ = None
 
 -- its locations are a store's, its structure has a size that there is, and it is no cancel
 abbrev pub IsSayable : Op → Type 0

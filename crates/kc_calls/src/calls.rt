@@ -6,6 +6,7 @@ ghost use Rattle.kc_calls.specs.Meaning.{said_meaning, said_end, SaidIsFit, alte
 ghost use Rattle.kc_xt.specs.Law.{Obeys};
 
 use crate::operation::KcasOp;
+use crate::sequence::Sequence;
 use crate::verbs::OR;
 use kc_model::{MOST, Reply};
 use kc_term::{Either, Row};
@@ -71,7 +72,8 @@ fn run_said<P: Peek>(op: &KcasOp, xt: &mut Xt<P>) -> Result<Reply, Stop>
 }
 
 /// The operations one after another, or the first of the alternatives that doesn't wait, as one transaction, where they
-/// lie. It replies what each operation that ran replied, in order, and takes no memory.
+/// lie. It replies what each operation that ran replied, in order, and takes no memory. An operation may be fed what others before it
+/// in its alternative replied.
 #[derive(Drop)]
 pub struct Calls<'a> {
     pub ops: &'a [KcasOp],
@@ -112,20 +114,20 @@ fn run_alternatives<P: Peek>(ops: &[KcasOp], xt: &mut Xt<P>) -> Result<Reply, St
 {
     let one = cut_of(ops);
     if one == ops.len() {
-        return Row { ops }.run(xt);
+        return Sequence { ops }.run(xt);
     }
     let (first, behind_one) = ops.split_at(one);
-    let first = Row { ops: first };
+    let first = Sequence { ops: first };
     let two = cut_of(behind_one);
     if two == behind_one.len() {
-        let second = Row { ops: behind_one };
+        let second = Sequence { ops: behind_one };
         return Either { first, second }.run(xt);
     }
     let (second, behind_two) = behind_one.split_at(two);
-    let second = Row { ops: second };
+    let second = Sequence { ops: second };
     let three = cut_of(behind_two);
     if three == behind_two.len() {
-        let third = Row { ops: behind_two };
+        let third = Sequence { ops: behind_two };
         let second = Either {
             first: second,
             second: third,
@@ -134,8 +136,8 @@ fn run_alternatives<P: Peek>(ops: &[KcasOp], xt: &mut Xt<P>) -> Result<Reply, St
     }
     let (third, fourth) = behind_two.split_at(three);
     let third = Either {
-        first: Row { ops: third },
-        second: Row { ops: fourth },
+        first: Sequence { ops: third },
+        second: Sequence { ops: fourth },
     };
     let second = Either {
         first: second,

@@ -13,6 +13,7 @@ mod object;
 mod operation;
 mod reply;
 mod said;
+mod sequence;
 mod verbs;
 
 pub use alone::{Silent, alone_on_location, first_value, told_alone};

@@ -6,9 +6,9 @@ use crate::object::KcasObject;
 #[repr(C)]
 #[derive(Clone, Copy)]
 pub struct KcasOp {
-    /// What is done: 1 to 37, see `verbs`.
+    /// What is done: 1 to 40, see `verbs`.
     pub verb: u32,
-    /// 0, or 1 where it begins the next alternative.
+    /// 0; 1 where it begins the next alternative; 2 to 4 where `a`, `b` or both name an operation before it, whose reply is the number.
     pub mark: u32,
     pub on: KcasObject,
     pub a: u32,

@@ -51,7 +51,7 @@ fn reply_at(reply: &Reply, index: usize) -> KcasReply
     }
 }
 
-fn item_at(reply: &Reply, index: usize) -> Option<Item>
+pub(crate) fn item_at(reply: &Reply, index: usize) -> Option<Item>
     ensures { result ≡ slice_get (items_of reply.now) index }
 {
     match reply {

@@ -1,7 +1,7 @@
 //! The operation that C says, with its structure.
 
 ghost use Rattle.std.specs.Prelude.{◌≡◌, Some, IfSome};
-ghost use Rattle.kc_calls.specs.Said.{call_said, done_to};
+ghost use Rattle.kc_calls.specs.Said.{acted, call_said, done_to, plain_verb};
 ghost use Rattle.kc_calls.specs.declared.call.Call.TheVariants as call;
 ghost use Rattle.kc_script_bundle.specs.declared.operation.Op.TheVariants as op;
 
@@ -13,7 +13,7 @@ use crate::call::Call;
 use crate::kinds::LOCATION;
 use crate::layout::has_room;
 use crate::operation::KcasOp;
-use crate::verbs::SAY;
+use crate::verbs::{ENQ, ENQ_WAIT, PUSH, PUSH_WAIT, PUT, PUT_WAIT, SAY};
 use kc_cache::CacheOp;
 use kc_cells::{AccOp, MvarOp, PromiseOp};
 use kc_grow::GrowOp;
@@ -58,6 +58,29 @@ impl KcasOp {
 fn done_to(structure: Object, verb: u32, a: u32, b: u32) -> Option<Call>
     ensures { result ≡ done_to structure verb a b }
 {
+    match acted(structure, verb, a, b) {
+        Some(operation) => Some(Call::Act(operation)),
+        None => {
+            let plain = plain_verb(verb)?;
+            Some(Call::WaitForRoom(acted(structure, plain, a, b)?))
+        }
+    }
+}
+
+fn plain_verb(verb: u32) -> Option<u32>
+    ensures { result ≡ plain_verb verb }
+{
+    match verb {
+        PUSH_WAIT => Some(PUSH),
+        ENQ_WAIT => Some(ENQ),
+        PUT_WAIT => Some(PUT),
+        _ => None,
+    }
+}
+
+fn acted(structure: Object, verb: u32, a: u32, b: u32) -> Option<Op>
+    ensures { result ≡ acted structure verb a b }
+{
     let operation = match structure {
         Object::Loc { at, .. } => Op::Loc(loc_op(at, verb, a, b)?),
         Object::Stack(stack) => Op::Stack(StackOp {
@@ -93,5 +116,5 @@ fn done_to(structure: Object, verb: u32, a: u32, b: u32) -> Option<Call>
             act: accumulator_act(verb, a, b)?,
         }),
     };
-    Some(Call::Act(operation))
+    Some(operation)
 }

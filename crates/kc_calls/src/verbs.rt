@@ -6,6 +6,15 @@ pub(crate) const NEXT: u32 = 0;
 // It begins the next alternative.
 pub(crate) const OR: u32 = 1;
 
+// Its number `a` is what the operation of that number replied, the first of its alternative being 0.
+pub(crate) const FED_A: u32 = 2;
+
+// Its number `b` is.
+pub(crate) const FED_B: u32 = 3;
+
+// Both are.
+pub(crate) const FED_BOTH: u32 = 4;
+
 // To nothing: it replies a number.
 pub(crate) const SAY: u32 = 1;
 
@@ -89,6 +98,13 @@ pub(crate) const TOTAL: u32 = 36;
 
 // To a stack, queue, table or cache.
 pub(crate) const LEN: u32 = 37;
+
+// To a stack, queue or table, which waits where there is no room.
+pub(crate) const PUSH_WAIT: u32 = 38;
+
+pub(crate) const ENQ_WAIT: u32 = 39;
+
+pub(crate) const PUT_WAIT: u32 = 40;
 
 // The functions of UPDATE and MODIFY.
 pub(crate) const FUN_ADD: u32 = 1;

@@ -31,6 +31,7 @@ impl<A: Transact, B: Transact> Transact for Both<A, B> {
         MOST as u32
     }
 
+    #[inline(always)]
     fn run<P: Peek>(&self, xt: &mut Xt<P>) -> Result<Reply, Stop> {
         let told = self.first.run(xt)?;
         let _ = told;

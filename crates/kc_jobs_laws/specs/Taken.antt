@@ -1,8 +1,8 @@
 -- What an act makes of each job, by what the cells show of it.
-use Rattle.std.specs.Prelude.{◌≡◌, ℕ, ◌⊎◌, ◌+◌, ◌*◌, ◌<◌, ◌≤◌, Option, Some, None}
+use Rattle.std.specs.Prelude.{◌≡◌, ◌≢◌, ℕ, ◌+◌, ◌*◌, ◌<◌, ◌≤◌, false, Option, Some, None}
 use Rattle.kc_cells.specs.OnePlace.{PlaceHolds, value_held}
 use Rattle.kc_cells.specs.Promise.{promise_value}
-use Rattle.kc_cells.specs.declared.promise.PromiseAct.TheVariants.{Resolve}
+use Rattle.kc_cells.specs.declared.promise.PromiseAct.TheVariants.{Await, Resolve}
 use Rattle.kc_cells.specs.declared.promise.Promise.{Promise}
 use Rattle.kc_compose.specs.Leads.{LeadsTo}
 use Rattle.kc_hash.specs.Content.{HashStandsFor, hash_shown, value_at}
@@ -10,7 +10,7 @@ use Rattle.kc_jobs.specs.declared.jobs.TheConstants.{RUNNING, WAITING}
 use Rattle.kc_jobs_laws.specs.declared.jobs.Jobs.{Jobs}
 use Rattle.kc_model.specs.declared.reply.Reply.{Reply}
 use Rattle.kc_model.specs.declared.reply.Reply.TheVariants as reply
-use Rattle.kc_xt.specs.Meaning.{Meaning}
+use Rattle.kc_xt.specs.Meaning.{Meaning, replied}
 use Rattle.kc_xt.specs.Structure.{WellFormed}
 
 -- the first cell of a job's end
@@ -53,23 +53,33 @@ pub record AreUnknown (s : Jobs) (m : ℕ → ℕ) : Type 0 where
 pub record TakesJobs (s : Jobs) (so : ℕ → Job → Reply → Job → Type 0) (p : Meaning) : Type 0 where
   pub leads : LeadsTo (AreJobCells s) (λ m a w. (i : ℕ) → i < s.many → so i (job_at s m i) a (job_at s w i)) p
 
--- ---- what becomes of job i
+-- ---- what becomes of job i, by the reply
 
 abbrev pub StaysSo : ℕ → Job → Reply → Job → Type 0
 StaysSo i j a k = k ≡ j
 
--- It stays as it was; or it is this job, the table said this of it, and it is made so of what its end was told.
-abbrev pub MovesJob : ℕ → Option ℕ → (Option ℕ → Job) → ℕ → Job → Reply → Job → Type 0
-MovesJob job old to i j a k = (k ≡ j) ⊎ ((i ≡ job) × (j.state ≡ old) × (k ≡ to j.told))
-
--- It stays as it was; or its number was replied, it waited, and now it runs.
-abbrev pub StartsJob : ℕ → Job → Reply → Job → Type 0
-StartsJob i j a k = (k ≡ j) ⊎ ((a ≡ reply.Value i) × (j.state ≡ Some WAITING) × (k ≡ job_of (Some RUNNING) j.told))
-
--- it has this state then
-abbrev pub marked_as : ℕ → Option ℕ → Job
-marked_as state told = job_of (Some state) told
-
--- and its end is told this, if it was told nothing before
+-- its end is told so
 abbrev pub told_then : ℕ → ℕ → Option ℕ → Job
 told_then state v told = job_of (Some state) (promise_value (Resolve v) told).content
+
+-- Of this job nothing was known, and it waits then, or the table or the line is full; or it was known, and is refused.
+pub data SubmitsJob (job i : ℕ) (j : Job) (a : Reply) : Job → Type 0 where
+  submits_none : i ≢ job → SubmitsJob job i j a j
+  is_known : i ≡ job → j.state ≢ None → a ≡ reply.Bool false → SubmitsJob job i j a j
+  has_no_room : i ≡ job → j.state ≡ None → a ≡ reply.Full → SubmitsJob job i j a j
+  is_submitted : i ≡ job → j.state ≡ None → a ≡ reply.Unit → SubmitsJob job i j a (job_of (Some WAITING) j.told)
+
+-- The table said this of this job, and says that then; its end is told, if it was told nothing before, and that is what is replied. Or it said otherwise, and the job is refused.
+pub data SettlesJob (job old state v i : ℕ) (j : Job) (a : Reply) : Job → Type 0 where
+  settles_none : i ≢ job → SettlesJob job old state v i j a j
+  is_otherwise : i ≡ job → j.state ≢ Some old → a ≡ reply.Bool false → SettlesJob job old state v i j a j
+  is_settled : i ≡ job → j.state ≡ Some old → (promise_value (Resolve v) j.told).outcome ≡ replied a → SettlesJob job old state v i j a (told_then state v j.told)
+
+-- Its number was replied, it waited, and now it runs; or that wasn't, and it stays.
+pub data StartsJob (i : ℕ) (j : Job) (a : Reply) : Job → Type 0 where
+  starts_none : a ≢ reply.Value i → StartsJob i j a j
+  is_started : a ≡ reply.Value i → j.state ≡ Some WAITING → StartsJob i j a (job_of (Some RUNNING) j.told)
+
+-- each stays, and what the end of this one was told is replied
+abbrev pub AwaitsJob : ℕ → ℕ → Job → Reply → Job → Type 0
+AwaitsJob job i j a k = (k ≡ j) × (i ≡ job → (promise_value Await j.told).outcome ≡ replied a)

@@ -1,6 +1,6 @@
 //! The jobs, and the acts on them.
 
-ghost use Rattle.std.specs.Prelude.{◌≡◌, ◌≤◌, ◌<◌, ◌+◌, ◌*◌, Some, None, false, IfOk, length};
+ghost use Rattle.std.specs.Prelude.{◌≡◌, ◌≤◌, ◌<◌, ◌+◌, ◌*◌, false, IfOk, length};
 ghost use Rattle.kc_cells.specs.Promise.{promise_meaning};
 ghost use Rattle.kc_cells.specs.declared.promise.PromiseAct.TheVariants as PromiseAct;
 ghost use Rattle.kc_compose.specs.Found.{moves_item};
@@ -9,8 +9,8 @@ ghost use Rattle.kc_hash.specs.declared.operation.HashAct.TheVariants as HashAct
 ghost use Rattle.kc_hash.specs.Meaning.{hash_cells_end};
 ghost use Rattle.kc_jobs.specs.declared.jobs.TheConstants.{CANCELLED, DONE, RUNNING, WAITING};
 ghost use Rattle.kc_jobs_laws.specs.Acts.{moves_meaning, settles_meaning, starts_meaning, starts_next, submits_job, submits_meaning};
-ghost use Rattle.kc_jobs_laws.specs.Taken.{AreJobsLaid, AreUnknown, IsEndOfJob, MovesJob, StartsJob, StaysSo, TakesJobs, marked_as, told_then};
-ghost use Rattle.kc_lay.specs.Placed.{HoldsAtOpening};
+ghost use Rattle.kc_jobs_laws.specs.Taken.{AreJobsLaid, AreUnknown, AwaitsJob, IsEndOfJob, SettlesJob, StartsJob, StaysSo, SubmitsJob, TakesJobs};
+ghost use Rattle.kc_lay.specs.Placed.{HoldsAtOpening, StaysLaid};
 ghost use Rattle.kc_model.specs.declared.plain_store.TheConstants.{MOST_LOCATIONS};
 ghost use Rattle.kc_model.specs.declared.reply.Reply.TheVariants as Reply;
 ghost use Rattle.kc_queue.specs.Meaning.{queue_cells_end};
@@ -45,7 +45,9 @@ impl Jobs {
         requires most { many ≤ MOST_ITEMS }
         requires room { length layout.old + 2 + MOST_BUCKETS + 5 * many ≤ MOST_LOCATIONS }
         ensures many { IfOk result (λ s. s.many ≡ many) }
+        ensures cap { IfOk result (λ s. s.states.cap ≡ many) }
         ensures laid { IfOk result (λ s. AreJobsLaid s) }
+        ensures stays { StaysLaid layout.old layout.new }
         ensures behind { IfOk result (λ s. length layout.old ≤ s.ends.base.0) }
         ensures within { IfOk result (λ s. hash_cells_end s.states ≤ length layout.new) }
         ensures opens { IfOk result (λ s. HoldsAtOpening (AreUnknown s) layout.new) }
@@ -65,17 +67,17 @@ impl Jobs {
         Promise::layout(self.ends.at(2 * job))
     }
 
-    /// `submit_job`: of this job nothing was known, and now it waits.
+    /// `submit_job`: of this job nothing was known, and now it waits; or it is refused, as the reply says.
     pub fn submit(&self, line: Queue, job: u32) -> When<HashOp, Give<Unless<HashOp, QueueOp>>, Say>
         requires laid { AreJobsLaid self.now }
         requires line { queue_cells_end line ≤ self.now.ends.base.0 }
         ensures is { result ≡ submits_job self.now.states line job }
-        ensures takes { TakesJobs self.now (MovesJob job None (marked_as WAITING)) (submits_meaning result) }
+        ensures takes { TakesJobs self.now (SubmitsJob job) (submits_meaning result) }
     {
         submit_job(self.states, line, job)
     }
 
-    /// `cancel_job`: this job waited, and now it is cancelled, and its end is told 0.
+    /// `cancel_job`: this job waited, and now it is cancelled, and its end is told 0; or it is refused.
     pub fn cancel(&self, job: u32) -> When<HashOp, Both<HashOp, PromiseOp>, Say>
         requires laid { AreJobsLaid self.now }
         requires job { job < self.now.many }
@@ -85,7 +87,7 @@ impl Jobs {
         ensures marks { result.then.first ≡ record { hash = self.now.states; act = HashAct.Put job CANCELLED } }
         ensures tells { result.then.second.act ≡ PromiseAct.Resolve 0 }
         ensures refuses { result.otherwise ≡ record { reply = Reply.Bool false } }
-        ensures takes { TakesJobs self.now (MovesJob job (Some WAITING) (told_then CANCELLED 0)) (settles_meaning result) }
+        ensures takes { TakesJobs self.now (SettlesJob job WAITING CANCELLED 0) (settles_meaning result) }
     {
         cancel_job(self.states, self.end_of(job), job)
     }
@@ -111,7 +113,7 @@ impl Jobs {
         start_job(ready, self.states)
     }
 
-    /// `end_job`: this job ran, and now it is done, and its end is told this.
+    /// `end_job`: this job ran, and now it is done, and its end is told this; or it is refused.
     pub fn end(&self, job: u32, value: u32) -> When<HashOp, Both<HashOp, PromiseOp>, Say>
         requires laid { AreJobsLaid self.now }
         requires job { job < self.now.many }
@@ -121,7 +123,7 @@ impl Jobs {
         ensures marks { result.then.first ≡ record { hash = self.now.states; act = HashAct.Put job DONE } }
         ensures tells { result.then.second.act ≡ PromiseAct.Resolve value }
         ensures refuses { result.otherwise ≡ record { reply = Reply.Bool false } }
-        ensures takes { TakesJobs self.now (MovesJob job (Some RUNNING) (told_then DONE value)) (settles_meaning result) }
+        ensures takes { TakesJobs self.now (SettlesJob job RUNNING DONE value) (settles_meaning result) }
     {
         end_job(self.states, self.end_of(job), job, value)
     }
@@ -132,7 +134,7 @@ impl Jobs {
         requires job { job < self.now.many }
         ensures end { IsEndOfJob self.now job result.promise }
         ensures act { result.act ≡ PromiseAct.Await }
-        ensures takes { TakesJobs self.now StaysSo (promise_meaning result) }
+        ensures takes { TakesJobs self.now (AwaitsJob job) (promise_meaning result) }
     {
         PromiseOp {
             promise: self.end_of(job),

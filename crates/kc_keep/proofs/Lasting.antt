@@ -7,7 +7,7 @@ use Rattle.kc_model.specs.Store.{Finds, Store, after}
 use Rattle.kc_model.specs.declared.footprint.Entry.{Entry}
 use Rattle.kc_xt.specs.Meaning.{values}
 
-one_more : (before : List Entry) (x : Entry) (s t : Store) → IsLegal s before t → Finds x.footprint t → IsLegal s (before ++ x ∷ []) (after x.footprint t)
+pub one_more : (before : List Entry) (x : Entry) (s t : Store) → IsLegal s before t → Finds x.footprint t → IsLegal s (before ++ x ∷ []) (after x.footprint t)
 one_more [] x s t legal finds = subst (λ (u : Store). Finds x.footprint u × (after x.footprint t ≡ after x.footprint u)) legal (finds, refl)
 one_more (y ∷ ys) x s t legal finds = (legal.0, one_more ys x (after y.footprint s) t legal.1 finds)
 

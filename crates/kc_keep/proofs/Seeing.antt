@@ -3,7 +3,7 @@ use Rattle.std.proofs.Common.{◌≡◌, ℕ, zero, suc, List, [], ◌∷◌, �
 use Rattle.std.specs.Prelude.{IfSome, Option, None, Some}
 use Rattle.std.proofs.lemmas.List.{take-append-drop}
 use Rattle.kc_keep.proofs.Keeping.{says}
-use Rattle.kc_keep.specs.Keeping.{HoldsThroughout, IsSeenWhere, SawReply, SaysWhere}
+use Rattle.kc_keep.specs.Keeping.{HoldsThroughout, IsSeenWhere, SawReply, SaysWhere, reply_seen}
 use Rattle.kc_model.specs.Legal.{IsLegal}
 use Rattle.kc_model.specs.Store.{Finds, Store, after}
 use Rattle.kc_model.specs.declared.footprint.Entry.{Entry}
@@ -76,11 +76,15 @@ entry_where holds s e es x throughout legal there =
 
 -- ---- views
 
-pub saw_by : (m : Meaning) (v : Viewed) (c : CallerView) (f : Footprint) (d : CallerView) → IsViewed m v c f d → ShowsItsSeat c → ShowsItsSeat d → (r : Option Reply) → IfSome r (λ a. v ≡ viewed.Done a) → IfSome r (λ a. SawReply m a c d)
-saw_by m v c f d so began ended None e = e
-saw_by m v c f d so began ended (Some a) e =
-    let one = subst (λ (x : Viewed). IsViewed m x c f d) e so in
-    record { footprint = f; answers = one.0.0; stands = one.0.2; began = began; ended = ended }
+saw_so : (m : Meaning) (v : Viewed) (c : CallerView) (f : Footprint) (d : CallerView) → IsViewed m v c f d → ShowsItsSeat c → ShowsItsSeat d → IfSome (reply_seen v) (λ a. SawReply m a c d)
+saw_so m (viewed.Done a) c f d so began ended = record { footprint = f; answers = so.0.0; stands = so.0.2; began = began; ended = ended }
+saw_so m viewed.Later c f d so began ended = tt
+saw_so m viewed.TooLarge c f d so began ended = tt
+saw_so m viewed.Puts c f d so began ended = tt
+saw_so m (viewed.Committed a) c f d so began ended = tt
+
+pub saw_by : (m : Meaning) (v : Viewed) (c : CallerView) (f : Footprint) (d : CallerView) → IsViewed m v c f d → ShowsItsSeat c → ShowsItsSeat d → (r : Option Reply) → r ≡ reply_seen v → IfSome r (λ a. SawReply m a c d)
+saw_by m v c f d so began ended r e = subst (λ (o : Option Reply). IfSome o (λ a. SawReply m a c d)) (sym e) (saw_so m v c f d so began ended)
 
 pub says_where : (holds : (ℕ → ℕ) → Type 0) (s : Store) (es known : List Entry) (m : Meaning) (a : Reply) (c d : CallerView) (saw : SawReply m a c d) → IsSeenWhere holds s es known saw.footprint → SaysWhere holds s es known m a
 says_where holds s es known m a c d saw seen = record { footprint = saw.footprint; seen = seen; says = says (run_on m seen.store).outcome a (saw.answers.run seen.store seen.finds) }

@@ -1,8 +1,9 @@
 -- Callers that served are all of the store's.
 use Rattle.std.proofs.Common.{◌≡◌, ℕ, suc, ◌+◌, List, [], ◌∷◌, length, map, refl, sym, ap, subst, ◌∙◌, arith}
-use Rattle.std.specs.Prelude.{All, IsPermutation}
+use Rattle.std.specs.Prelude.{All, IsPermutation, replicate}
 use Rattle.std.proofs.lemmas.List.Elements.{All-cons, All-nil}
 use Rattle.std.proofs.lemmas.List.Sorted.{IsPermutation-refl}
+use Rattle.kc_keep.specs.Unworn.{OpensUnworn}
 use Rattle.kc_keep.specs.Only.{HasOnly, ServeFrom, Serves}
 use Rattle.kc_keep.proofs.Told.{both_added}
 use Rattle.kc_lay.specs.Placed.{OpensAsLaid}
@@ -10,7 +11,7 @@ use Rattle.kc_store.proofs.Remembering.{remembers_on}
 use Rattle.kc_store.specs.Backs.{AreAllCallers}
 use Rattle.kc_store.specs.Knows.{OpensWith}
 use Rattle.kc_store.specs.Views.{CallerView, StoreView, opened_caller, store_opening}
-use Rattle.kc_store.specs.kc_table_moves.Views.{count_from}
+use Rattle.kc_store.specs.kc_table_moves.Views.{OpensAt, count_from}
 use Rattle.kc_xt.specs.Meaning.{Meaning, values}
 
 module _ (is_one : Meaning → Type 0) (z : StoreView) where
@@ -47,3 +48,7 @@ serves_then is_one c d e first second = record { remembers = remembers_on c d e 
 -- a store that opened with these values opens as laid
 pub opens_so : (z : StoreView) (us vs versions : List ℕ) (k : ℕ) → us ≡ vs → OpensWith us versions k z → OpensAsLaid vs (values (store_opening z))
 opens_so z us vs versions k e so = subst (λ xs. OpensAsLaid xs (values (store_opening z))) e (record { cells = λ l lt. ap (λ (x : _). x.value) (so.cells l lt) })
+
+-- and so opens fresh
+pub opens_unworn : (z : StoreView) (us vs : List ℕ) (k : ℕ) → us ≡ vs → OpensAt us (replicate (length us) 0) k 0 z.table → OpensWith us (replicate (length us) 0) k z → OpensUnworn vs k z
+opens_unworn z us vs k e at so = subst (λ xs. OpensUnworn xs k z) e (record { versions = so; lives = at })

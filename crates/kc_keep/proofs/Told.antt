@@ -3,7 +3,7 @@ use Rattle.std.proofs.Common.{◌≡◌, ℕ, inl, inr, List, [], ◌∷◌, ◌
 use Rattle.std.specs.Prelude.{All}
 use Rattle.std.proofs.lemmas.List.{append_assoc, append-nil}
 use Rattle.std.proofs.lemmas.List.Elements.{All-append, All-cons, All-nil}
-use Rattle.kc_await.specs.Adds.{AddsLooksAlone, AddsLooksAndOne, IsLookOf, IsToldAtLast, WaitsSo}
+use Rattle.kc_await.specs.Adds.{AddsLooksAlone, AddsLooksAndOne, IsLookOf, IsToldAtLast, IsToldInTime, WaitsSo}
 use Rattle.kc_await.specs.Viewing.{IsViewedAtLast}
 use Rattle.kc_keep.specs.Only.{CommitsOnly, HasOnly, IsEntryOfThese, IsOfThese, OfMeanings}
 use Rattle.kc_model.specs.declared.footprint.Entry.{Entry}
@@ -130,3 +130,7 @@ module _ (is_one : Meaning → Type 0) where
 
   pub has_all : (c d : CallerView) → c.own ≡ [] → CommitsOnly is_one c d → HasOnly is_one d
   has_all c d none x = has_still c d (subst (OfMeanings is_one) (sym none) (All-nil E)) x
+
+  -- looks, and then a commit
+  pub in_time : (n : ℕ) (m : Meaning) (a : Answered) (c : CallerView) (f : Footprint) (d : CallerView) → is_one m → IsToldInTime (limited n m) a c f d → CommitsOnly is_one c d
+  in_time n m a c f d is so = both_added c so.last d (adds_looks (limited n m) c so.last so.looks) (told n m (verdict_of a) so.last f d is so.told)

@@ -1,5 +1,5 @@
 -- What holds of the values throughout a history.
-use Rattle.std.specs.Prelude.{◌≡◌, ℕ, List, ◌++◌}
+use Rattle.std.specs.Prelude.{◌≡◌, ℕ, List, ◌++◌, Option, Some, None}
 use Rattle.kc_model.specs.Legal.{IsLegal}
 use Rattle.kc_model.specs.Store.{Finds, Store}
 use Rattle.kc_model.specs.declared.footprint.Entry.{Entry}
@@ -10,6 +10,8 @@ use Rattle.kc_store.specs.Backs.{ShowsItsSeat}
 use Rattle.kc_store.specs.Knows.{IsWithin}
 use Rattle.kc_store.specs.Viewing.{StandsAtOnce}
 use Rattle.kc_store.specs.Views.{CallerView}
+use Rattle.kc_store.specs.declared.viewing.Viewed.{Viewed}
+use Rattle.kc_store.specs.declared.viewing.Viewed.TheVariants as viewed
 use Rattle.kc_xt.specs.Commit.{Answers, run_on}
 use Rattle.kc_xt.specs.Meaning.{Meaning, map_after, replied, values}
 
@@ -39,6 +41,11 @@ pub record SawReply (m : Meaning) (a : Reply) (c d : CallerView) : Type 0 where
   pub stands : StandsAtOnce footprint c d
   pub began : ShowsItsSeat c
   pub ended : ShowsItsSeat d
+
+-- the reply of a view that has no entry
+abbrev pub reply_seen : Viewed → Option Reply
+reply_seen (viewed.Done a) = Some a
+reply_seen v = None
 
 -- behind a front of the list, which has all that was known, it holds, and what has this meaning replies so
 pub record SaysWhere (holds : (ℕ → ℕ) → Type 0) (s : Store) (es known : List Entry) (m : Meaning) (a : Reply) : Type 0 where

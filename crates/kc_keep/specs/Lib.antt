@@ -1,3 +1,4 @@
 pub mod Only
 pub mod Keeping
 pub mod Steps
+pub mod Unworn

@@ -50,6 +50,7 @@ pub fn finish_stepped<S: Stepping>(stepping: &S, store: Store, callers: Vec<Call
     ensures shown { result ≡ past_view result.past }
     ensures throughout { HoldsThroughout (S.holds stepping.now) (store_opening store) result.history }
     ensures holds { S.holds stepping.now (values (last result)) }
+    ensures views { (m : Meaning) (a : Reply) (c d e : CallerView) → SawReply m a c d → Remembers d e → ShowsItsSeat e → Contains callers.items e → SaysWhere (S.holds stepping.now) (store_opening store) result.history c.known m a }
     ensures steps { StepsThroughout (S.steps stepping.now) (store_opening store) result.history }
     ensures lasts { IsTransitive (S.steps stepping.now) → LastsThroughout (S.steps stepping.now) (store_opening store) result.history }
 {
@@ -68,9 +69,15 @@ pub fn finish_served<S: Stepping>(
     requires laid { OpensAsLaid layout.now (values (store_opening store)) }
     requires opens { HoldsAtOpening (S.holds stepping.now) layout.now }
     ensures history { IsHistory store callers.items result }
+    ensures past { IsPast store.table (map (λ (c : CallerView). c.seat) callers.items) result.past }
+    ensures within { All (λ e. IsBelow store.locations e.footprint) result.history }
+    ensures shown { result ≡ past_view result.past }
     ensures legal { IsLegal (store_opening store) result.history (last result) }
     ensures throughout { HoldsThroughout (S.holds stepping.now) (store_opening store) result.history }
+    ensures holds { S.holds stepping.now (values (last result)) }
+    ensures views { (m : Meaning) (a : Reply) (c d e : CallerView) → SawReply m a c d → Remembers d e → ShowsItsSeat e → Contains callers.items e → SaysWhere (S.holds stepping.now) (store_opening store) result.history c.known m a }
     ensures steps { StepsThroughout (S.steps stepping.now) (store_opening store) result.history }
+    ensures lasts { IsTransitive (S.steps stepping.now) → LastsThroughout (S.steps stepping.now) (store_opening store) result.history }
 {
     serving_adds_up(stepping);
     finish_stepped(stepping, store, callers)

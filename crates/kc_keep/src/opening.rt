@@ -1,6 +1,7 @@
 //! A store that opens as laid, for two threads or for four; and their callers, put together again.
 
-ghost use Rattle.std.specs.Prelude.{◌≡◌, [], ◌∷◌, IfOk, length};
+ghost use Rattle.std.specs.Prelude.{◌≡◌, [], ◌∷◌, IfErr, IfOk, length};
+ghost use Rattle.kc_keep.specs.Unworn.{OpensUnworn};
 ghost use Rattle.kc_lay.specs.Placed.{OpensAsLaid};
 ghost use Rattle.kc_store.specs.Views.{opened_caller, store_opening};
 ghost use Rattle.kc_xt.specs.Meaning.{values};
@@ -10,13 +11,14 @@ use kc_store::{Caller, Store};
 use std::alloc::Global;
 use std::io;
 
-/// A store that threads share without a lock, which opens as laid, and its two callers.
+/// A store that threads share without a lock, which opens as laid, with all versions and lives before it, and its two callers.
 ///
 /// # Errors
 ///
 /// - OutOfMemory: there is no memory for it, or the layout has more than 65,536 locations
 pub fn open_for_two(alloc: Global, layout: &Layout) -> io::Result<(Store, Caller, Caller)>
     ensures many { IfOk result (λ t. t.0.callers ≡ 2) }
+    ensures unworn { IfOk result (λ t. OpensUnworn layout.now 2 t.0) }
     ensures locations { IfOk result (λ t. t.0.locations ≡ length layout.now) }
     ensures opens { IfOk result (λ t. OpensAsLaid layout.now (values (store_opening t.0))) }
     ensures first { IfOk result (λ t. t.1 ≡ opened_caller t.0 0) }
@@ -41,6 +43,7 @@ pub fn open_for_four(
     layout: &Layout,
 ) -> io::Result<(Store, Caller, Caller, Caller, Caller)>
     ensures many { IfOk result (λ t. t.0.callers ≡ 4) }
+    ensures unworn { IfOk result (λ t. OpensUnworn layout.now 4 t.0) }
     ensures locations { IfOk result (λ t. t.0.locations ≡ length layout.now) }
     ensures opens { IfOk result (λ t. OpensAsLaid layout.now (values (store_opening t.0))) }
     ensures first { IfOk result (λ t. t.1 ≡ opened_caller t.0 0) }
@@ -66,13 +69,20 @@ pub fn open_for_four(
 ///
 /// # Errors
 ///
-/// - OutOfMemory: there is no memory for the list
-pub fn both_callers(alloc: Global, first: Caller, second: Caller) -> io::Result<Vec<Caller>>
-    ensures { IfOk result (λ v. v.items ≡ first ∷ second ∷ []) }
+/// - the callers: there is no memory for the list
+pub fn both_callers(
+    alloc: Global,
+    first: Caller,
+    second: Caller,
+) -> Result<Vec<Caller>, (Caller, Caller)>
+    ensures all { IfOk result (λ v. v.items ≡ first ∷ second ∷ []) }
+    ensures back { IfErr result (λ t. t ≡ (first, second)) }
 {
-    let mut callers = Vec::new(alloc);
-    callers.push(first)?;
-    callers.push(second)?;
+    let Ok(mut callers) = Vec::with_capacity(alloc, 2) else {
+        return Err((first, second));
+    };
+    callers.push_reserved(first);
+    callers.push_reserved(second);
     Ok(callers)
 }
 
@@ -80,20 +90,23 @@ pub fn both_callers(alloc: Global, first: Caller, second: Caller) -> io::Result<
 ///
 /// # Errors
 ///
-/// - OutOfMemory: there is no memory for the list
+/// - the callers: there is no memory for the list
 pub fn four_callers(
     alloc: Global,
     first: Caller,
     second: Caller,
     third: Caller,
     fourth: Caller,
-) -> io::Result<Vec<Caller>>
-    ensures { IfOk result (λ v. v.items ≡ first ∷ second ∷ third ∷ fourth ∷ []) }
+) -> Result<Vec<Caller>, (Caller, Caller, Caller, Caller)>
+    ensures all { IfOk result (λ v. v.items ≡ first ∷ second ∷ third ∷ fourth ∷ []) }
+    ensures back { IfErr result (λ t. t ≡ (first, second, third, fourth)) }
 {
-    let mut callers = Vec::new(alloc);
-    callers.push(first)?;
-    callers.push(second)?;
-    callers.push(third)?;
-    callers.push(fourth)?;
+    let Ok(mut callers) = Vec::with_capacity(alloc, 4) else {
+        return Err((first, second, third, fourth));
+    };
+    callers.push_reserved(first);
+    callers.push_reserved(second);
+    callers.push_reserved(third);
+    callers.push_reserved(fourth);
     Ok(callers)
 }

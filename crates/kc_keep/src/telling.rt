@@ -1,9 +1,9 @@
 //! From the answers of calls to what a thread may say of its own entries. The laws do nothing: the contract is the law.
 
 ghost use Rattle.std.specs.Prelude.{◌≡◌, ◌≤◌, ℕ, All, IfSome, List};
-ghost use Rattle.kc_await.specs.Adds.{IsToldAtLast, WaitsSo};
+ghost use Rattle.kc_await.specs.Adds.{IsToldAtLast, IsToldInTime, WaitsSo};
 ghost use Rattle.kc_await.specs.Viewing.{IsViewedAtLast};
-ghost use Rattle.kc_keep.specs.Keeping.{SawReply};
+ghost use Rattle.kc_keep.specs.Keeping.{SawReply, reply_seen};
 ghost use Rattle.kc_keep.specs.Only.{CommitsOnly, HasOnly, ServeFrom, Serves, reply_in};
 ghost use Rattle.kc_model.specs.declared.footprint.Footprint.{Footprint};
 ghost use Rattle.kc_store.specs.Backs.{AreAllCallers};
@@ -14,7 +14,6 @@ ghost use Rattle.kc_store.specs.declared.values.Outcome.{Outcome};
 ghost use Rattle.kc_store.specs.declared.values.Try.{Try};
 ghost use Rattle.kc_store.specs.declared.verdict.Answered.{Answered};
 ghost use Rattle.kc_store.specs.declared.verdict.Verdict.{Verdict};
-ghost use Rattle.kc_store.specs.declared.viewing.Viewed.TheVariants as viewed;
 ghost use Rattle.kc_store.specs.declared.viewing.Viewed.{Viewed};
 ghost use Rattle.kc_xt.specs.Meaning.{Meaning, limited};
 
@@ -32,10 +31,11 @@ pub fn told_of<I: Invariant>(invariant: &I)
     ensures tries { (n : ℕ) (m : Meaning) (end : ℕ) (a : Try) (c d : CallerView) → I.is_one invariant.now m → TriesSo (limited n m) end a c d → CommitsOnly (I.is_one invariant.now) c d }
 {}
 
-/// Likewise a commit that waits: its looks put nothing.
+/// Likewise a commit that waits, also one that waits no longer than a limit: its looks put nothing.
 pub fn waited_of<I: Invariant>(invariant: &I)
     ensures told { (n : ℕ) (m : Meaning) (a : Answered) (c : CallerView) (f : Footprint) (d : CallerView) → I.is_one invariant.now m → IsToldAtLast (limited n m) a c f d → CommitsOnly (I.is_one invariant.now) c d }
     ensures waits { (n : ℕ) (m : Meaning) (end : ℕ) (a : Outcome) (c d : CallerView) → I.is_one invariant.now m → WaitsSo (limited n m) end a c d → CommitsOnly (I.is_one invariant.now) c d }
+    ensures in_time { (n : ℕ) (m : Meaning) (a : Answered) (c : CallerView) (f : Footprint) (d : CallerView) → I.is_one invariant.now m → IsToldInTime (limited n m) a c f d → CommitsOnly (I.is_one invariant.now) c d }
 {}
 
 /// Likewise a view, and one that waits: it adds nothing, or ends as a commit.
@@ -86,7 +86,7 @@ pub fn commit_kept<R: Wait, I: Invariant, T: Transact>(
     commit_replied(rt, store, caller, act)
 }
 
-/// Views one of the invariant's meanings: its reply, or None where the view ended without one, or as a commit.
+/// Views one of the invariant's meanings: its reply, or None exactly where the view ended without one, or as a commit.
 pub fn view_kept<R: Wait, I: Invariant, T: Transact>(
     rt: &R,
     store: &Store,
@@ -99,6 +99,7 @@ pub fn view_kept<R: Wait, I: Invariant, T: Transact>(
     requires within { T.end act.now ≤ store.now.locations }
     requires one { I.is_one invariant.now (T.meaning act.now) }
     ensures serves { Serves (I.is_one invariant.now) caller.old caller.new }
+    ensures so { (v : Viewed) × (f : Footprint) × IsViewed (limited (T.most act.now) (T.meaning act.now)) v caller.old f caller.new × (result ≡ reply_seen v) }
     ensures saw { IfSome result (λ a. SawReply (limited (T.most act.now) (T.meaning act.now)) a caller.old caller.new) }
 {
     viewed_of(invariant);
@@ -111,7 +112,7 @@ pub fn view_kept<R: Wait, I: Invariant, T: Transact>(
 
 // The reply of a view that has no entry.
 fn reply_viewed(answer: Viewed) -> Option<Reply>
-    ensures { IfSome result (λ a. answer ≡ viewed.Done a) }
+    ensures { result ≡ reply_seen answer }
 {
     match answer {
         Viewed::Done(reply) => Some(reply),

@@ -1,4 +1,4 @@
--- What holds of the eras while nobody has the lock, and of a handle's place in them.
+-- What holds of the eras while nobody has them out, and of a handle's place in them.
 use Rattle.std.specs.Prelude.{◌≡◌, ◌≤◌, ℕ, ◌+◌, List, Option, Some, None, All, length}
 use Rattle.atomic_table.specs.Seated.{TableId}
 use Rattle.kc_lasting.specs.Ends.{IsEraEnd, MayEnd}

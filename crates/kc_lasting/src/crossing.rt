@@ -67,7 +67,7 @@ pub(crate) fn stands<R: Wait>(
     }
 }
 
-/// Under the lock of the eras: begins a new one where the last is the handle's, if that is wanted, and goes over to the last one.
+/// With the eras taken out: begins a new one where the last is the handle's, if that is wanted, and goes over to the last one.
 #[cold]
 #[inline(never)]
 pub(crate) fn cross<R: Wait>(
@@ -86,15 +86,15 @@ pub(crate) fn cross<R: Wait>(
     ensures size { client.new.locations ≡ client.old.locations }
 {
     'tries: for _ in rt.forever() {
-        if let Some(crossing) = cross_locked(rt, shared, client, place, footprint, begins) {
+        if let Some(crossing) = cross_alone(rt, shared, client, place, footprint, begins) {
             return crossing;
         }
     }
     unreachable!()
 }
 
-// Under the lock.
-fn cross_locked<R: Wait>(
+// Takes the eras out meanwhile, so that others wait.
+fn cross_alone<R: Wait>(
     rt: &R,
     shared: &Shared,
     client: &mut Client,
@@ -109,12 +109,9 @@ fn cross_locked<R: Wait>(
     ensures moves { MovesOn place.old place.new }
     ensures size { client.new.locations ≡ client.old.locations }
 {
-    let _locked = shared.lock.lock(rt);
-    let Some(mut eras) = shared.take() else {
-        return None;
-    };
+    let (mut eras, taken) = shared.eras.take(rt);
     let crossed = cross_once(rt, shared, &mut eras, client, place, footprint, begins);
-    shared.give(eras);
+    shared.eras.give(taken, eras);
     crossed
 }
 

@@ -5,8 +5,8 @@
 //! it behind each call. As long as it is as it was, all that the handle has committed in its era stands before the cut that comes; else
 //! the handle learns what is known at the cut, and compares one put.
 //!
-//! The eras are lines of a roll, of which each handle has seen a front, under one lock. So all handles know of one chain of eras, and
-//! what a handle is told (`ToldSo`, `ToldInVain`, `specs/Told.antt`) is of the history with which an era of that chain ends.
+//! The eras are lines of a roll, of which each handle has seen a front, and one handle at a time has them out. So all know of one chain
+//! of eras, and what a handle is told (`ToldSo`, `ToldInVain`, `specs/Told.antt`) is of the history with which an era of it ends.
 #![tactic(auto)]
 
 mod caller;

@@ -1,24 +1,22 @@
 //! What all handles share.
 
-ghost use Rattle.std.specs.Prelude.{◌≡◌, IfSome};
+ghost use Rattle.std.specs.Prelude.{◌≡◌, IfOk};
 ghost use Rattle.kc_lasting.specs.Kept.{ErasKept};
 
 use crate::eras::Eras;
 use crate::line::Line;
-use counted_slot::{Counted, FREE, TAKEN};
+use kc_holder::Holder;
 use kc_roll::{Page, Roll};
-use std::alloc::Global;
-use std::sync::Mutex;
+use std::alloc::{AllocError, Global};
 
-/// The eras, which one takes and gives back while one has the lock, and their roll.
+/// The eras, which one at a time takes out, and their roll.
 #[derive(Drop)]
 pub struct Shared {
     pub(crate) alloc: Global,
-    pub(crate) lock: Mutex<()>,
-    eras: Counted<Option<Eras>>,
+    pub(crate) eras: Holder<Eras>,
     pub(crate) roll: Roll<Line>,
     pub(crate) callers: u32,
-    ghost tag: { eras ≡ roll },
+    ghost tag: { eras.tag ≡ roll },
 }
 
 /// A handle's place among the others, and in the eras.
@@ -36,42 +34,21 @@ pub struct Place {
 }
 
 impl Shared {
-    pub(crate) fn of(alloc: Global, eras: Eras, roll: Roll<Line>, callers: u32) -> Shared
+    pub(crate) fn of(
+        alloc: Global,
+        eras: Eras,
+        roll: Roll<Line>,
+        callers: u32,
+    ) -> Result<Shared, AllocError>
         requires { ErasKept roll eras }
-        ensures { result.roll ≡ roll }
+        ensures { IfOk result (λ s. s.roll ≡ roll) }
     {
-        let eras = Counted::new(Some(eras), &roll);
-        Shared {
+        let eras = Holder::new(alloc, eras, &roll)?;
+        Ok(Shared {
             alloc,
-            lock: Mutex::new(()),
             eras,
             roll,
             callers,
-        }
-    }
-
-    /// The eras, for who has the lock.
-    pub(crate) fn take(&self) -> Option<Eras>
-        ensures { IfSome result (λ e. ErasKept self.now.roll e) }
-    {
-        let (found, claim) = self.eras.turn(FREE, TAKEN);
-        if found == FREE {
-            claim.put(None, FREE)
-        } else {
-            // Nobody else has the lock, so that never comes.
-            claim.done();
-            None
-        }
-    }
-
-    pub(crate) fn give(&self, eras: Eras)
-        requires { ErasKept self.now.roll eras }
-    {
-        let (found, claim) = self.eras.turn(FREE, TAKEN);
-        if found == FREE {
-            claim.put(Some(eras), FREE);
-        } else {
-            claim.done();
-        }
+        })
     }
 }

@@ -3,7 +3,7 @@ use Rattle.std.proofs.Common.{◌≡◌, ℕ, ◌<◌, true, false, Option, Some
 use Rattle.std.specs.Prelude.{◌||◌}
 use Rattle.std.specs.Option.{is_some}
 use Rattle.kc_jobs.specs.declared.jobs.TheConstants.{CANCELLED, DONE, RUNNING, WAITING}
-use Rattle.kc_jobs_laws.specs.Taken.{AreJobCells, AreUnknown, Job, MovesJob, StartsJob, StaysSo, TakesJobs, job_at, job_of, marked_as, told_then}
+use Rattle.kc_jobs_laws.specs.Taken.{AreJobCells, AreUnknown, AwaitsJob, Job, SettlesJob, StartsJob, StaysSo, SubmitsJob, TakesJobs, has_no_room, is_known, is_otherwise, is_settled, is_started, is_submitted, job_at, job_of, settles_none, starts_none, submits_none, told_then}
 use Rattle.kc_jobs_laws.specs.declared.jobs.Jobs.{Jobs}
 use Rattle.kc_model.specs.declared.reply.Reply.{Reply}
 use Rattle.kc_sched.specs.Sched.{EachGoes, EndsStay, GoesSo, IsJob, JobGoes, cancelled, comes, done, ends, is_cancelled, is_settled_state, runs, starts, stays, unknown, waits}
@@ -38,34 +38,47 @@ from old to j k unsettled step said e is =
 
 -- ---- acts
 
+abbrev marked_as : ℕ → Option ℕ → Job
+marked_as state told = job_of (Some state) told
+
 all_go : (s : Sched) (so : ℕ → Job → Reply → Job → Type 0) (p : Meaning) → ((i : ℕ) (j k : Job) (a : Reply) → so i j a k → IsJob j → JobGoes j k) → TakesJobs s.jobs so p → GoesSo s p
 all_go s so p step takes n m ks a (many, cells, are) e =
     let one = takes.leads n m ks a cells e in
     let goes : EachGoes s m _ = λ i lt. step i _ _ a (one.1 i (omega (arith, lt, many))) (are i lt) in
     ((many, one.0, λ i lt. goes_is _ _ (are i lt) (goes i lt)), goes)
 
-moves_go : (s : Sched) (job : ℕ) (old : Option ℕ) (to : Option ℕ → Job) (p : Meaning) → is_settled_state old ≡ false → JobGoes (job_of old None) (to None) → TakesJobs s.jobs (MovesJob job old to) p → GoesSo s p
-moves_go s job old to p unsettled step = all_go s (MovesJob job old to) p moves
+pub submitting : (s : Sched) (job : ℕ) (p : Meaning) → TakesJobs s.jobs (SubmitsJob job) p → GoesSo s p
+submitting s job p = all_go s (SubmitsJob job) p submits
   where
-    moves : (i : ℕ) (j k : Job) (a : Reply) → MovesJob job old to i j a k → IsJob j → JobGoes j k
-    moves i j k a (inl same) is = stay j k same
-    moves i j k a (inr (this, said, e)) is = from old to j k unsettled step said e is
+    submits : (i : ℕ) (j k : Job) (a : Reply) → SubmitsJob job i j a k → IsJob j → JobGoes j k
+    submits i j k a (submits_none other) is = stays j
+    submits i j k a (is_known this known said) is = stays j
+    submits i j k a (has_no_room this none said) is = stays j
+    submits i j k a (is_submitted this none said) is = from None (marked_as WAITING) j k refl comes none refl is
 
-pub submitting : (s : Sched) (job : ℕ) (p : Meaning) → TakesJobs s.jobs (MovesJob job None (marked_as WAITING)) p → GoesSo s p
-submitting s job p = moves_go s job None (marked_as WAITING) p refl comes
+settling : (s : Sched) (job old state v : ℕ) (p : Meaning) → is_settled_state (Some old) ≡ false → JobGoes (job_of (Some old) None) (told_then state v None) → TakesJobs s.jobs (SettlesJob job old state v) p → GoesSo s p
+settling s job old state v p unsettled step = all_go s (SettlesJob job old state v) p settles
+  where
+    settles : (i : ℕ) (j k : Job) (a : Reply) → SettlesJob job old state v i j a k → IsJob j → JobGoes j k
+    settles i j k a (settles_none other) is = stays j
+    settles i j k a (is_otherwise this other said) is = stays j
+    settles i j k a (is_settled this was said) is = from (Some old) (told_then state v) j k unsettled step was refl is
 
-pub cancelling : (s : Sched) (job : ℕ) (p : Meaning) → TakesJobs s.jobs (MovesJob job (Some WAITING) (told_then CANCELLED 0)) p → GoesSo s p
-cancelling s job p = moves_go s job (Some WAITING) (told_then CANCELLED 0) p refl is_cancelled
+pub cancelling : (s : Sched) (job : ℕ) (p : Meaning) → TakesJobs s.jobs (SettlesJob job WAITING CANCELLED 0) p → GoesSo s p
+cancelling s job p = settling s job WAITING CANCELLED 0 p refl is_cancelled
 
-pub ending : (s : Sched) (job v : ℕ) (p : Meaning) → TakesJobs s.jobs (MovesJob job (Some RUNNING) (told_then DONE v)) p → GoesSo s p
-ending s job v p = moves_go s job (Some RUNNING) (told_then DONE v) p refl (ends v)
+pub ending : (s : Sched) (job v : ℕ) (p : Meaning) → TakesJobs s.jobs (SettlesJob job RUNNING DONE v) p → GoesSo s p
+ending s job v p = settling s job RUNNING DONE v p refl (ends v)
 
 pub starting : (s : Sched) (p : Meaning) → TakesJobs s.jobs StartsJob p → GoesSo s p
 starting s p = all_go s StartsJob p begins
   where
     begins : (i : ℕ) (j k : Job) (a : Reply) → StartsJob i j a k → IsJob j → JobGoes j k
-    begins i j k a (inl same) is = stay j k same
-    begins i j k a (inr (number, said, e)) is = from (Some WAITING) (marked_as RUNNING) j k refl starts said e is
+    begins i j k a (starts_none other) is = stays j
+    begins i j k a (is_started number was) is = from (Some WAITING) (marked_as RUNNING) j k refl starts was refl is
+
+pub awaiting : (s : Sched) (job : ℕ) (p : Meaning) → TakesJobs s.jobs (AwaitsJob job) p → GoesSo s p
+awaiting s job p = all_go s (AwaitsJob job) p (λ i j k a e is. stay j k e.0)
 
 pub staying : (s : Sched) (p : Meaning) → TakesJobs s.jobs StaysSo p → GoesSo s p
 staying s p = all_go s StaysSo p (λ i j k a e is. stay j k e)

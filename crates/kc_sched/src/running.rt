@@ -39,7 +39,9 @@ pub fn run_sched<R: Threads + Wait + Sync>(
             requires { (first.of ≡ shared.now) × (second.of ≡ shared.now) × HasSched sched.now shared.now.locations }
         { work_by_two(rt, shared, first, second, sched) },
     );
-    let callers = four_callers(alloc, client, clock, first, second)?;
+    let Ok(callers) = four_callers(alloc, client, clock, first, second) else {
+        return Err(io::ErrorKind::OutOfMemory.into());
+    };
     let past = finish_served(sched, layout, store, callers);
     Ok((past, [told, one, two]))
 }

@@ -39,9 +39,10 @@ pub(crate) fn commit_on<R: Wait, T: Drop, K: Holds<T>>(
     act: ShelfAct,
 ) -> Outcome
     requires caller { caller.old.of ≡ store.now }
-    requires fit { IsFitShelfAct pool.now act }
-    requires within { act_end pool.now act ≤ store.now.locations }
-    ensures came { ActCame pool.now act result caller.old caller.new }
+    requires pool { pool.now.of ≡ store.now }
+    requires fit { IsFitShelfAct pool.now.shelf act }
+    requires within { act_end pool.now.shelf act ≤ store.now.locations }
+    ensures came { ActCame pool.now.shelf act result caller.old caller.new }
     ensures remembers { Remembers caller.old caller.new }
 {
     commit_act(rt, store, caller, pool.shelf(), act)
@@ -77,9 +78,10 @@ pub fn put_value<R: Wait, T: Drop, K: Holds<T>>(
     value: T,
 ) -> Put<T>
     requires caller { caller.old.of ≡ store.now }
-    requires within { shelf_cells_end pool.now ≤ store.now.locations }
+    requires pool { pool.now.of ≡ store.now }
+    requires within { shelf_cells_end pool.now.shelf ≤ store.now.locations }
     requires holds { (ticket : ℕ) → K.holds ticket value }
-    ensures puts { PutsValue pool.now value result caller.old caller.new }
+    ensures puts { PutsValue pool.now.shelf value result caller.old caller.new }
     ensures remembers { Remembers caller.old caller.new }
 {
     match commit_on(rt, store, caller, pool, ShelfAct::Reserve) {
@@ -126,9 +128,10 @@ pub fn drop_name<'a, R: Wait, T: Drop, K: Holds<T>>(
     ticket: u32,
 ) -> Dropped<'a, T>
     requires caller { caller.old.of ≡ store.now }
-    requires ticket { IsTicket pool.now ticket }
-    requires within { shelf_cells_end pool.now ≤ store.now.locations }
-    ensures drops { DropsName K.holds pool.now ticket store.now result caller.old caller.new }
+    requires pool { pool.now.of ≡ store.now }
+    requires ticket { IsTicket pool.now.shelf ticket }
+    requires within { shelf_cells_end pool.now.shelf ≤ store.now.locations }
+    ensures drops { DropsName K.holds pool.now.shelf ticket store.now result caller.old caller.new }
     ensures remembers { Remembers caller.old caller.new }
 {
     match commit_on(rt, store, caller, pool, ShelfAct::Drop(ticket)) {

@@ -1,6 +1,6 @@
 //! What the cells of a shelf are, and what a ticket says.
 
-ghost use Rattle.std.specs.Prelude.{◌≡◌, ◌≤◌, ◌<◌, ◌+◌, ◌*◌, true};
+ghost use Rattle.std.specs.Prelude.{◌≡◌, ◌≤◌, ◌<◌, ◌+◌, ◌*◌, ◌↔◌, true};
 ghost use Rattle.kc_shelf.specs.Meaning.{IsSlot, IsTicket, count_at, first_free, head_at, last_life, life_at, life_of, next_at, shelf_cells, shelf_cells_end, shelf_opening, slot_of, ticket_of};
 
 use crate::shelf::Shelf;
@@ -54,7 +54,7 @@ impl Shelf {
 
     /// Whether it is a ticket of a slot of this shelf.
     pub fn has(&self, ticket: u32) -> bool
-        ensures { result ≡ true → IsTicket self.now ticket }
+        ensures { result ≡ true ↔ IsTicket self.now ticket }
     {
         self.slot_of(ticket) != 0
     }

@@ -6,6 +6,7 @@ ghost use Rattle.counted_slot.specs.Counting.{Gains, IsTurn, readers};
 
 use crate::shelf::Shelf;
 use counted_slot::{Claim, Counted, FREE, Fits, MOST_READERS, ONE_READER, PRESENT, TAKEN};
+use kc_store::Store;
 use std::alloc::{AllocError, Global};
 use std::marker::{Model, PhantomData};
 use std::sync::Wait;
@@ -33,20 +34,31 @@ impl<T, K: Holds<T>> Fits for Kept<T, K> {
 
 type Slot<T, K> = Counted<Option<Kept<T, K>>>;
 
+// Of which store it is. It has no bytes, and nobody asks for it.
+#[derive(Drop)]
+pub(crate) struct Mark;
+
+impl Fits for Mark {
+    type Tag = Store;
+
+    ghost fits = { λ _ _. Unit {0} };
+}
+
 /// The values of a shelf. The high half of a slot's word is the ticket of the value that it has or had last. Contracts see the
-/// shelf.
+/// store that has the shelf's cells, and the shelf.
 #[derive(Drop)]
 pub struct Pool<T: Drop, K: Holds<T>> {
+    of: Counted<Mark>,
     shelf: Shelf,
     slots: Vec<Slot<T, K>>,
 }
 
 impl<T: Drop, K: Holds<T>> Model for Pool<T, K> {
-    ghost use Rattle.kc_shelf.specs.declared.shelf.Shelf.{Shelf};
+    ghost use Rattle.kc_shelf.specs.Pooling.{PoolView};
 
-    ghost Value = { Shelf };
+    ghost Value = { PoolView };
 
-    ghost view = { λ p. p.shelf };
+    ghost view = { λ p. record { of = p.of; shelf = p.shelf } };
 }
 
 const HALF: u64 = 0x1_0000_0000;
@@ -89,20 +101,24 @@ fn read_kept<T, K: Holds<T>, A, F: FnOnce(&T) -> A>(
 }
 
 impl<T: Drop, K: Holds<T>> Pool<T, K> {
-    /// The slots of a shelf, all free.
-    pub fn open(alloc: Global, shelf: Shelf) -> Result<Pool<T, K>, AllocError>
-        ensures { IfOk result (λ pool. pool ≡ shelf) }
+    /// The slots of a shelf in a store, all free.
+    pub fn open(alloc: Global, store: &Store, shelf: Shelf) -> Result<Pool<T, K>, AllocError>
+        ensures { IfOk result (λ pool. pool ≡ record { of = store.now; shelf = shelf }) }
     {
         let mut slots = Vec::with_capacity(alloc, shelf.slots() as usize)?;
         for _ in 0..shelf.slots() {
             slots.push(Counted::new(None, &()))?;
         }
-        Ok(Pool { shelf, slots })
+        Ok(Pool {
+            of: Counted::new(Mark, store),
+            shelf,
+            slots,
+        })
     }
 
     /// Where its cells lie, and how many slots it has.
     pub fn shelf(&self) -> Shelf
-        ensures { result ≡ self.now }
+        ensures { result ≡ self.now.shelf }
     {
         self.shelf
     }

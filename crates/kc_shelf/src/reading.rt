@@ -40,10 +40,11 @@ pub fn read_at<'a, R: Wait, T: Drop, K: Holds<T>, A, F: FnOnce(&T) -> A>(
     f: F,
 ) -> Read<'a, A, T>
     requires caller { caller.old.of ≡ store.now }
+    requires pool { pool.now.of ≡ store.now }
     requires place { (place.0 < store.now.locations) × (place.0 < MOST_LOCATIONS) }
-    requires within { shelf_cells_end pool.now ≤ store.now.locations }
+    requires within { shelf_cells_end pool.now.shelf ≤ store.now.locations }
     requires callable { F.IsAlwaysCallable f }
-    ensures reads { ReadsAt K.holds (FnOnceReturnsAt F.FnOnce f) pool.now place store.now result caller.old caller.new }
+    ensures reads { ReadsAt K.holds (FnOnceReturnsAt F.FnOnce f) pool.now.shelf place store.now result caller.old caller.new }
     ensures remembers { Remembers caller.old caller.new }
 {
     match commit_on(rt, store, caller, pool, ShelfAct::NameAt(place)) {

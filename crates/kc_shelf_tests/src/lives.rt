@@ -27,7 +27,7 @@ fn fills<'a>(alloc: Global, shop: &Shop<'a>, tally: &'a Tally, ticket: u32) -> O
 // What a name more replies.
 fn names<R: Wait>(rt: &R, shop: &Shop<'_>, caller: &mut Caller, ticket: u32) -> Option<Reply>
     requires caller { caller.old.of ≡ shop.now.store }
-    requires ticket { IsTicket shop.now.pool ticket }
+    requires ticket { IsTicket shop.now.pool.shelf ticket }
     ensures { caller.new.of ≡ caller.old.of }
 {
     reply(rt, shop, caller, &shop.pool.shelf().name(ticket))
@@ -42,7 +42,7 @@ fn next<R: Wait>(
     ticket: u32,
 ) -> Option<u32>
     requires caller { caller.old.of ≡ shop.now.store }
-    requires ticket { IsTicket shop.now.pool ticket }
+    requires ticket { IsTicket shop.now.pool.shelf ticket }
     ensures { caller.new.of ≡ caller.old.of }
 {
     match drop_name(rt, &shop.store, caller, &shop.pool, ticket) {
@@ -89,7 +89,7 @@ fn one_life<'a, R: Wait + Abort>(
     first: u32,
 )
     requires caller { caller.old.of ≡ shop.now.store }
-    requires ticket { IsTicket shop.now.pool first }
+    requires ticket { IsTicket shop.now.pool.shelf first }
     ensures { caller.new.of ≡ caller.old.of }
 {
     equal(rt, names(rt, shop, caller, first), Some(Reply::Unit));

@@ -99,8 +99,9 @@ pub(crate) struct Shop<'a> {
     pub(crate) store: Store,
     pub(crate) pool: Pool<Load<'a>, Any>,
     pub(crate) jobs: Queue,
+    ghost of: { pool.of ≡ store },
     ghost places: { PLACES ≤ store.locations },
-    ghost cells: { shelf_cells_end pool ≤ store.locations },
+    ghost cells: { shelf_cells_end pool.shelf ≤ store.locations },
     ghost queued: { queue_cells_end jobs ≤ store.locations },
 }
 
@@ -133,7 +134,7 @@ pub(crate) fn open<'a>(alloc: Global) -> Option<(Shop<'a>, Four)>
     let c = callers.pop()?;
     let b = callers.pop()?;
     let a = callers.pop()?;
-    let Ok(pool) = Pool::open(alloc, shelf) else {
+    let Ok(pool) = Pool::open(alloc, &store, shelf) else {
         return None;
     };
     Some((Shop { store, pool, jobs }, Four { a, b, c, d }))
@@ -212,7 +213,7 @@ pub(crate) fn take_out<R: Wait>(
     dropped: Dropped<'_, Load<'_>>,
 )
     requires caller { caller.old.of ≡ shop.now.store }
-    requires slot { HasSlotOf shop.now.store shop.now.pool dropped }
+    requires slot { HasSlotOf shop.now.store shop.now.pool.shelf dropped }
     ensures { caller.new.of ≡ caller.old.of }
 {
     match dropped {

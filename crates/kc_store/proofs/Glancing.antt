@@ -34,17 +34,18 @@ use Rattle.kc_store.proofs.Looking.{advances_same, advances_then}
 use Rattle.kc_store.proofs.Remembering.{entries_within, within_on}
 use Rattle.kc_hang.proofs.kc_table_laws.Running.{ran_same}
 use Rattle.kc_store.proofs.Settling.{looked_keeps, looked_worn, looked_none as looked_none_own, settles_from}
-use Rattle.kc_store.specs.Answers.{PutsNothing, own_entries}
-use Rattle.kc_store.specs.Knows.{AddsOne, IsTold, IsWithin, OnlyLearns, entry_of}
+use Rattle.kc_store.specs.Answers.{PutsNothing, Settles, own_entries}
+use Rattle.kc_store.specs.Knows.{AddsOne, IsTold, IsWithin, NotesWear, OnlyLearns, entry_of}
 use Rattle.kc_store.specs.Tries.{Did, Sees}
 use Rattle.kc_store.specs.Verdicts.{is_final, is_worn_pool, verdict_of}
-use Rattle.kc_store.specs.Viewing.{FrontMakes, Glances, Glimpses, IsCommittedSo, IsGlimpsed, IsViewed, StandsAtOnce, WouldPut, is_settled, is_worn_went, stands_as, viewed_as}
+use Rattle.kc_store.specs.Viewing.{FrontMakes, Glances, Glimpses, InVain, IsCommittedSo, IsGlimpsed, IsViewed, StandsAtOnce, WouldPut, is_settled, is_worn_went, stands_as, viewed_as}
 use Rattle.kc_store.specs.Views.{CallerView, caller_view}
 use Rattle.kc_store.specs.Works.{AllLooked, IsFrom, MayRun, Runs}
 use Rattle.kc_store.specs.declared.budget.Budget.{Budget}
 use Rattle.kc_store.specs.declared.verdict.Answered.{Answered}
 use Rattle.kc_store.specs.declared.verdict.Answered.TheVariants as answered
 use Rattle.kc_store.specs.declared.viewing.Glimpse.{Glimpse}
+use Rattle.kc_store.specs.declared.viewing.TheConstants.{MOST_VIEWS}
 use Rattle.kc_store.specs.declared.viewing.Glimpse.TheVariants as glimpse
 use Rattle.kc_store.specs.declared.viewing.Viewed.{Viewed}
 use Rattle.kc_store.specs.declared.viewing.Viewed.TheVariants as viewed
@@ -201,12 +202,12 @@ module _ (m : Meaning) (t : Tried) (v : SeatView) (f : Footprint) (b : Budget) (
 
 -- ---- what is answered
 
-pub glimpses : (m : Meaning) (t : Tried) (before f : Footprint) (v w : SeatView) → Came m t before f → PutsNothing f → StoodForGood v f w → Glimpses m (stands_as t) v f w
-glimpses m (tried.Done r) before f v w came puts s = (came, puts, s)
-glimpses m tried.Later before f v w came puts s = (came, puts, s)
-glimpses m tried.TooLarge before f v w came puts s = (came, puts, s)
-glimpses m (tried.Worn loc) before f v w came puts s = (inr (loc, came), s)
-glimpses m tried.Busy before f v w came puts s = tt
+pub glimpses : (m : Meaning) (t : Tried) (before f : Footprint) (v w : SeatView) → t ≢ tried.Busy → Came m t before f → PutsNothing f → StoodForGood v f w → Glimpses m (stands_as t) v f w
+glimpses m (tried.Done r) before f v w n came puts s = (came, puts, s)
+glimpses m tried.Later before f v w n came puts s = (came, puts, s)
+glimpses m tried.TooLarge before f v w n came puts s = (came, puts, s)
+glimpses m (tried.Worn loc) before f v w n came puts s = (inr (loc, came), s)
+glimpses m tried.Busy before f v w n came puts s = absurd (n refl)
 
 -- what is found to put something
 pub would_put : (m : Meaning) (w : Went) (r : Reply) (before f : Footprint) → w ≢ went.Busy → Came m (tried_of w r) before f → PutsWhereDone (tried_of w r) f → (is_worn_went w ≡ true) ⊎ (f.puts.items ≢ []) → WouldPut m f
@@ -278,6 +279,15 @@ fills_so glimpse.Puts x e = refl
 fills_so glimpse.Changed x e = absurd (cc)
 fills_so (glimpse.Busy steps) x e = absurd (cc)
 
+-- what isn't answered is tried again
+pub unsettled : (a : Glimpse) → viewed_as a ≡ None → is_settled a ≡ false
+unsettled (glimpse.Done r) e = absurd (cc)
+unsettled glimpse.Later e = absurd (cc)
+unsettled glimpse.TooLarge e = absurd (cc)
+unsettled glimpse.Puts e = absurd (cc)
+unsettled glimpse.Changed e = refl
+unsettled (glimpse.Busy steps) e = refl
+
 -- ---- a commit behind tries
 
 adds_from : (c d : CallerView) (f : Footprint) (e : CallerView) → OnlyLearns c d → AddsOne d f e → AddsOne c f e
@@ -297,10 +307,14 @@ final_verdict answered.TooLarge = refl
 final_verdict (answered.WornLocation loc) = refl
 final_verdict answered.WornPool = refl
 
-pub committed_from : (m : Meaning) (a : Answered) (c d : CallerView) (f : Footprint) (e : CallerView) → OnlyLearns c d → own_entries d.seat ≡ own_entries c.seat → IsCommittedSo m a d f e → IsCommittedSo m a c f e
-committed_from m a c d f e o none x = record {
-  told = told_from m a c d f e o x.told;
-  settles = settles_from m (verdict_of a) c.seat d.seat f e.seat (final_verdict a) o.remembers.keeps none x.settles;
-  worn = λ q. x.worn (o.worn ∙ q);
-  notes = x.notes ∙ ap (λ b. is_worn_pool (verdict_of a) || b) o.worn;
+pub committed_from : (m : Meaning) (a : Answered) (c d : CallerView) (f : Footprint) (e : CallerView) → OnlyLearns c d → own_entries d.seat ≡ own_entries c.seat → InVain m c MOST_VIEWS d → IsTold m (verdict_of a) d f e → Settles m (verdict_of a) d.seat f e.seat
+    → (d.worn ≡ true → a ≡ answered.WornPool) → NotesWear d (verdict_of a) e → IsCommittedSo m a c f e
+committed_from m a c d f e o none vain told settles worn notes = record {
+  from = d;
+  vain = vain;
+  commits = told;
+  told = told_from m a c d f e o told;
+  settles = settles_from m (verdict_of a) c.seat d.seat f e.seat (final_verdict a) o.remembers.keeps none settles;
+  worn = λ q. worn (o.worn ∙ q);
+  notes = notes ∙ ap (λ b. is_worn_pool (verdict_of a) || b) o.worn;
 }

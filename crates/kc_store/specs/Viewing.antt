@@ -1,5 +1,5 @@
 -- Views: what is answered of reads that stood at one moment, without an entry.
-use Rattle.std.specs.Prelude.{◌≡◌, ◌≢◌, ◌≤◌, ◌⊎◌, ℕ, [], Bool, true, false, List, Option, Some, None, take}
+use Rattle.std.specs.Prelude.{◌≡◌, ◌≢◌, ◌≤◌, ◌⊎◌, ℕ, ◌+◌, [], Bool, true, false, List, Option, Some, None, take}
 use Rattle.kc_hang.specs.kc_machine_traces.Histories.{made}
 use Rattle.kc_hang.specs.kc_table_laws.Confirmed.{StoodForGood}
 use Rattle.kc_hang.specs.kc_table_laws.Tasks.{KeepsKnown}
@@ -12,6 +12,7 @@ use Rattle.kc_model.specs.declared.reply.Answer.TheVariants as answer
 use Rattle.kc_model.specs.declared.reply.Reply.{Reply}
 use Rattle.kc_store.specs.Answers.{IsBusy, PutsNothing, Settles, own_entries}
 use Rattle.kc_store.specs.Knows.{IsTold, IsWithin, NotesWear, OnlyLearns}
+use Rattle.kc_store.specs.Tries.{Sees}
 use Rattle.kc_store.specs.Verdicts.{has_entry, verdict_of}
 use Rattle.kc_store.specs.Views.{CallerView, store_opening}
 use Rattle.kc_store.specs.Works.{Advances, StaysWorn}
@@ -23,7 +24,9 @@ use Rattle.kc_store.specs.declared.viewing.Sight.{Sight}
 use Rattle.kc_store.specs.declared.viewing.Sight.TheVariants as sight
 use Rattle.kc_store.specs.declared.viewing.Viewed.{Viewed}
 use Rattle.kc_store.specs.declared.viewing.Viewed.TheVariants as viewed
-use Rattle.kc_xt.specs.Commit.{Answers, Waits, Wears}
+use Rattle.kc_store.specs.declared.viewing.TheConstants.{MOST_VIEWS}
+use Rattle.kc_table.specs.Turns.{LooksUntil}
+use Rattle.kc_xt.specs.Commit.{Answers, Looked, Waits, Wears}
 use Rattle.kc_xt.specs.Meaning.{Meaning}
 use Rattle.kc_xt.specs.declared.attempts.Tried.{Tried}
 use Rattle.kc_xt.specs.declared.attempts.Tried.TheVariants as tried
@@ -66,13 +69,21 @@ glimpse_as (sight.Busy steps) t = glimpse.Busy steps
 abbrev pub WouldPut : Meaning → Footprint → Type 0
 WouldPut m f = ((r : Reply) × Answers m (answer.Reply r) f × (f.puts.items ≢ [])) ⊎ ((loc : Loc) × Wears m loc.0 f)
 
+-- the transaction looked, and of the second looks at what it had read one didn't find it
+pub record MissesOne (m : Meaning) (v : SeatView) (f : Footprint) : Type 0 where
+  pub tried : Tried
+  pub seen : SeatView
+  pub looked : Looked (Sees v) m tried v f seen
+  pub last : SeatView
+  pub missed : LooksUntil seen f.reads.items last
+
 -- the answer is the meaning's wherever the footprint's reads stand, and they all stood at one moment since it began, for good
 abbrev pub Glimpses : Meaning → Glimpse → SeatView → Footprint → SeatView → Type 0
 Glimpses m (glimpse.Done r) v f w = Answers m (answer.Reply r) f × PutsNothing f × StoodForGood v f w
 Glimpses m glimpse.Later v f w = Waits m f × PutsNothing f × StoodForGood v f w
 Glimpses m glimpse.TooLarge v f w = Answers m answer.TooLarge f × PutsNothing f × StoodForGood v f w
 Glimpses m glimpse.Puts v f w = WouldPut m f × StoodForGood v f w
-Glimpses m glimpse.Changed v f w = Unit {0}
+Glimpses m glimpse.Changed v f w = MissesOne m v f
 Glimpses m (glimpse.Busy steps) v f w = IsBusy v steps w
 
 -- ---- by a caller
@@ -99,7 +110,7 @@ IsGlimpsed m (glimpse.Done r) c f d = Answers m (answer.Reply r) f × PutsNothin
 IsGlimpsed m glimpse.Later c f d = Waits m f × PutsNothing f × StandsAtOnce f c d
 IsGlimpsed m glimpse.TooLarge c f d = Answers m answer.TooLarge f × PutsNothing f × StandsAtOnce f c d
 IsGlimpsed m glimpse.Puts c f d = WouldPut m f × StandsAtOnce f c d
-IsGlimpsed m glimpse.Changed c f d = Unit {0}
+IsGlimpsed m glimpse.Changed c f d = MissesOne m c.seat f
 IsGlimpsed m (glimpse.Busy steps) c f d = IsBusy c.seat steps d.seat
 
 -- it isn't tried again
@@ -120,8 +131,16 @@ viewed_as glimpse.Puts = Some viewed.Puts
 viewed_as glimpse.Changed = None
 viewed_as (glimpse.Busy steps) = None
 
--- it was committed, and answered so
+-- so many tries one after another, each changed or given up
+pub data InVain (m : Meaning) (c : CallerView) : ℕ → CallerView → Type 0 where
+  none : InVain m c 0 c
+  more : (n : ℕ) (d : CallerView) (a : Glimpse) (f : Footprint) (e : CallerView) → InVain m c n d → is_settled a ≡ false → IsGlimpsed m a d f e → OnlyLearns d e → InVain m c (n + 1) e
+
+-- behind all tries in vain it was committed, and answered so
 pub record IsCommittedSo (m : Meaning) (a : Answered) (c : CallerView) (f : Footprint) (d : CallerView) : Type 0 where
+  pub from : CallerView
+  pub vain : InVain m c MOST_VIEWS from
+  pub commits : IsTold m (verdict_of a) from f d
   pub told : IsTold m (verdict_of a) c f d
   pub settles : Settles m (verdict_of a) c.seat f d.seat
   pub worn : c.worn ≡ true → a ≡ answered.WornPool

@@ -5,13 +5,15 @@ ghost use Rattle.kc_hang.specs.kc_machine.Seats.{is_idle};
 ghost use Rattle.kc_hang.specs.kc_machine_traces.Histories.{IsKnown};
 ghost use Rattle.kc_hang.specs.kc_machine_traces.Traces.{first_store};
 ghost use Rattle.kc_hang.specs.kc_table_laws.Confirmed.{SeesConfirmed};
-ghost use Rattle.kc_hang.specs.kc_table_moves.Views.{knows, opening_at_seat};
+ghost use Rattle.kc_hang.specs.kc_table_moves.Views.{SeatView, knows, opening_at_seat};
 ghost use Rattle.kc_model.specs.Footprint.{IsBelow, Reads};
 ghost use Rattle.kc_model.specs.declared.footprint.Seen.{Seen as SeenValue};
 ghost use Rattle.kc_store.specs.Answers.{GainsNothing};
 ghost use Rattle.kc_store.specs.Knows.{OnlyLearns, Remembers};
 ghost use Rattle.kc_store.specs.Steps.{busy_bound};
-ghost use Rattle.kc_store.specs.Viewing.{Glances, Glimpses, IsGlimpsed, IsViewed, glimpse_as, has_reads, is_settled, is_worn_went, viewed_as};
+ghost use Rattle.kc_store.specs.Viewing.{Glances, Glimpses, InVain, IsGlimpsed, IsViewed, glimpse_as, has_reads, is_settled, is_worn_went, viewed_as};
+ghost use Rattle.kc_store.specs.declared.viewing.Glimpse.TheVariants.{Changed};
+ghost use Rattle.kc_table.specs.Turns.{LooksUntil};
 ghost use Rattle.kc_xt.specs.Commit.{tried_of};
 ghost use Rattle.kc_xt.specs.Meaning.{limited};
 
@@ -29,7 +31,7 @@ use std::sync::Wait;
 /// How often a view is tried before its transaction is committed. A view helps nobody: beside a writer that never stops, and where
 /// an owner stopped between its installs and its decision, it is changed each time. With a writer that spoils half of the tries one
 /// view in 256 comes to the commit, and the pauses between are still short.
-const MOST_VIEWS: u32 = 8;
+pub const MOST_VIEWS: u32 = 8;
 
 /// What one view answers.
 #[derive(Clone, Copy, Debug, PartialEq, Eq)]
@@ -129,8 +131,8 @@ impl Store {
         glimpse_on(sight, &trial)
     }
 
-    /// Views a transaction, up to eight times, until what it read hasn't changed, and answers as that try. It answers Changed where
-    /// each try was changed or given up, and never Busy.
+    /// Views a transaction, up to eight times, until what it read hasn't changed, and answers as that try. It answers Changed exactly
+    /// where eight tries were changed or given up, and never Busy.
     pub fn try_views_into<T: Transact>(
         &self,
         caller: &mut Caller,
@@ -140,13 +142,14 @@ impl Store {
         requires caller { caller.old.of ≡ self.now }
         requires fit { T.is_fit transaction.now }
         requires within { T.end transaction.now ≤ self.now.locations }
-        ensures glimpsed { IsGlimpsed (limited (T.most transaction.now) (T.meaning transaction.now)) result caller.old footprint.new caller.new }
+        ensures glimpsed { is_settled result ≡ true → IsGlimpsed (limited (T.most transaction.now) (T.meaning transaction.now)) result caller.old footprint.new caller.new }
+        ensures vain { is_settled result ≡ false → (result ≡ Changed) × InVain (limited (T.most transaction.now) (T.meaning transaction.now)) caller.old MOST_VIEWS caller.new }
         ensures within { is_settled result ≡ true → IsBelow (T.end transaction.now) footprint.new }
         ensures learns { OnlyLearns caller.old caller.new }
         ensures gains { GainsNothing caller.old.seat caller.new.seat }
     {
         let mut pauses = FIRST_PAUSES;
-        for _ in 0..MOST_VIEWS {
+        for tried in 0..MOST_VIEWS {
             let glimpse = self.try_view_into(caller, transaction, footprint);
             if is_settled(&glimpse) {
                 return glimpse;
@@ -261,6 +264,7 @@ fn confirm(table: &KcTable, seat: &mut KcSeat, footprint: &Footprint, budget: Bu
     requires below { IsBelow seat.old.of.origin.locations footprint.now }
     requires known { (r : SeenValue) → Reads footprint.now r → IsKnown (first_store (opening_at_seat seat.old)) (knows seat.old) r }
     ensures confirmed { result ≡ true → (r : SeenValue) → Reads footprint.now r → SeesConfirmed seat.new (length seat.old.past) r }
+    ensures missed { result ≡ false → (last : SeatView) × LooksUntil seat.old footprint.now.reads.items last }
     ensures goes { Glances seat.old seat.new }
 {
     if table.look_again(seat, footprint.reads.as_slice()) {

@@ -64,7 +64,9 @@ fn view_and_finish<R: Wait>(
     serving_adds_up(bank);
     what_is_known_stays_known();
     let sum = read_all(rt, &store, &mut first, bank)?;
-    let callers = both_callers(alloc, first, second)?;
+    let Ok(callers) = both_callers(alloc, first, second) else {
+        return Err(io::ErrorKind::OutOfMemory.into());
+    };
     Ok((finish_kept(bank, store, callers), sum))
 }
 

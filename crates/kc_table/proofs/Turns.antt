@@ -1,6 +1,6 @@
 -- Looks one after another.
 use Rattle.std.proofs.lemmas.List.Elements.{All-get_or}
-use Rattle.std.proofs.Common.{◌≡◌, ◌<◌, ◌++◌, ℕ, Bool, true, false, All, List, [], ◌∷◌, length, get_or, refl, sym, ap, ◌∙◌}
+use Rattle.std.proofs.Common.{◌≡◌, ◌<◌, ◌++◌, ℕ, Bool, true, false, All, List, [], ◌∷◌, length, Some, get_or, refl, sym, ap, ◌∙◌}
 use Rattle.atomic_table.specs.Seated.{TableId}
 use Rattle.atomic_table.specs.Table.{Me}
 use Rattle.kc_machine.specs.Machine.{run}
@@ -15,7 +15,7 @@ use Rattle.kc_model.specs.Word.{IsPackable, packed, unpacked}
 use Rattle.kc_model.specs.declared.footprint.Loc.{Loc}
 use Rattle.kc_model.specs.declared.footprint.Seen.{Seen}
 use Rattle.kc_model.specs.declared.word.Word.{Word}
-use Rattle.kc_model.specs.declared.word.Word.TheVariants.{Plain}
+use Rattle.kc_model.specs.declared.word.Word.TheVariants.{Plain, Ref}
 use Rattle.kc_table.proofs.Begins.{ready_begun}
 use Rattle.kc_table.proofs.Wholes.{look_busy, look_ran, look_ready, look_stands, look_steps}
 use Rattle.kc_table.specs.Turns.{LooksAgain, seat_behind, is_read_below, one}
@@ -45,6 +45,18 @@ behind_told s m (x ∷ y ∷ xs) r idle e = behind_told s m (y ∷ xs) r idle e
 
 pub behind_made : (s : Seat) (m : ℕ) (xs : List Seen) (r : Seen) → (seat_behind s m (xs ++ r ∷ [])).made ≡ m
 behind_made s m xs r = ap (λ (x : Seat). x.made) (behind_last s m xs r)
+
+-- a look of one step that was told this found its plain word
+pub look_found : (s w : Seat) (r : Seen) (x : Word) → is_idle s.work ≡ true → w ≡ seat_answered (begun s (Look r.loc)) (found.Word x) → is_idle w.work ≡ true → w.told ≡ Some (told.Seen r) → x ≡ Plain r.version r.value
+look_found s w r (Plain version value) idle is ended says =
+    let here : (seat_answered (begun s (Look r.loc)) (found.Word (Plain version value))).told ≡ Some (told.Seen (record { loc = r.loc; version = version; value = value })) = rw idle refl in
+    let e : Some (told.Seen (record { loc = r.loc; version = version; value = value })) ≡ Some (told.Seen r) = sym here ∙ sym (ap (λ (z : Seat). z.told) is) ∙ says in
+    let q : record { loc = r.loc; version = version; value = value } ≡ r = cc in
+    ap (λ (z : Seen). Plain z.version z.value) q
+look_found s w r (Ref generation descriptor entry) idle is ended says =
+    let here : is_idle (seat_answered (begun s (Look r.loc)) (found.Word (Ref generation descriptor entry))).work ≡ false = rw idle refl in
+    let e : true ≡ false = sym ended ∙ ap (λ (z : Seat). is_idle z.work) is ∙ here in
+    absurd (cc)
 
 -- ---- one more look
 

@@ -20,7 +20,7 @@ pub data LooksAgain (v : SeatView) : List Seen → SeatView → Type 0 where
   none : LooksAgain v [] v
   one : (rs : List Seen) (u : SeatView) (r : Seen) (w : SeatView) → LooksAgain v rs u → LooksAs u r w → LooksAgain v (rs ++ r ∷ []) w
 
--- so of some, and then it has made the first step of a look at the next
+-- so of some, and then it has made the first step of a look at the next, which didn't find it
 pub record LooksUntil (v : SeatView) (rs : List Seen) (w : SeatView) : Type 0 where
   pub front : ℕ
   pub r : Seen
@@ -30,6 +30,7 @@ pub record LooksUntil (v : SeatView) (rs : List Seen) (w : SeatView) : Type 0 wh
   pub looked : LooksAgain v (take front rs) u
   pub quiet : RanQuietly u (Look r.loc) w
   pub once : Stepped (begun_at u (Look r.loc)) w
+  pub differs : ¬ LooksAs u r w
 
 -- its location lies below
 abbrev pub is_read_below : ℕ → Seen → Type 0

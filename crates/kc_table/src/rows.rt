@@ -1,6 +1,6 @@
 //! Looks one after another: the seat is written once.
 
-ghost use Rattle.std.specs.Prelude.{◌≡◌, ◌<◌, ◌≤◌, ℕ, true, false, All, length, take};
+ghost use Rattle.std.specs.Prelude.{◌≡◌, ◌≢◌, ◌<◌, ◌≤◌, ℕ, true, false, All, length, take};
 ghost use Rattle.kc_table_layout.specs.declared.place.TheConstants.{LAST_BASE};
 ghost use Rattle.kc_machine.specs.Schedules.{IsWellMadeTask};
 ghost use Rattle.kc_machine.specs.Seats.{is_idle};
@@ -125,6 +125,7 @@ fn load_again<B: Asks>(
 #[inline(always)]
 fn says(number: u64, version: u32, value: u32) -> bool
     ensures says { result ≡ true → unpacked number ≡ Plain version value }
+    ensures misses { result ≡ false → unpacked number ≢ Plain version value }
     ensures back { (w : WordValue) → IsPackable w → packed w ≡ number → unpacked number ≡ w }
 {
     match Word::unpack(number) {

@@ -31,11 +31,11 @@ static void refusals(void) {
     CLAIM(tried(many, 0, 16) == KCAS_BAD_OPS && tried(many, 17, 20) == KCAS_BAD_OPS && tried(many, 2, 1) == KCAS_BAD_OPS);
     CLAIM(tried(many, 16, 16) == KCAS_DONE);
     CLAIM(one(kcas_at(4, KCAS_GET, 0, 0)) == KCAS_BAD_OPS && one(kcas_at(0xffffffff, KCAS_GET, 0, 0)) == KCAS_BAD_OPS);
-    CLAIM(one(kcas_at(0, KCAS_SWAP, 4, 0)) == KCAS_BAD_OPS && one(kcas_at(0, 0, 0, 0)) == KCAS_BAD_OPS && one(kcas_at(0, 38, 0, 0)) == KCAS_BAD_OPS);
+    CLAIM(one(kcas_at(0, KCAS_SWAP, 4, 0)) == KCAS_BAD_OPS && one(kcas_at(0, 0, 0, 0)) == KCAS_BAD_OPS && one(kcas_at(0, 41, 0, 0)) == KCAS_BAD_OPS);
     CLAIM(one(kcas_at(0, KCAS_PUSH, 0, 0)) == KCAS_BAD_OPS && one(kcas_do(kcas_stack(0, 4), KCAS_LEN, 0, 0)) == KCAS_BAD_OPS && one(kcas_do(kcas_stack(0, 0), KCAS_LEN, 0, 0)) == KCAS_BAD_OPS);
     CLAIM(one(kcas_at(0, KCAS_UPDATE, 7, 1)) == KCAS_BAD_OPS && one(kcas_at(0, KCAS_CHECK, 0, 1)) == KCAS_BAD_OPS && one(kcas_or(get)) == KCAS_BAD_OPS);
     bad = get;
-    bad.mark = 2;
+    bad.mark = 5;
     CLAIM(one(bad) == KCAS_BAD_OPS);
     bad = get;
     bad.on.kind = 10;

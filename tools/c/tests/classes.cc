@@ -48,6 +48,34 @@ void deadlines(kcas::caller &one, kcas::caller &other) {
     CLAIM(one.commit_for(t, 1h));
 }
 
+void fed_and_looked(kcas::caller &one) {
+    kcas::transaction t, look, puts;
+    t.add(kcas_say(7)).add_fed(kcas_loc(1), KCAS_XCHG, 0).add_fed_b(kcas_loc(1), KCAS_CAS, 7, 1).add(kcas_loc(1), KCAS_XCHG, 0);
+    CLAIM(one.commit(t) && t[2].kind == KCAS_BOOL && t[2].value == 1 && t[3].value == t[1].value);
+    look.add(kcas_loc(0), KCAS_GET).add(kcas_loc(1), KCAS_GET);
+    CLAIM(one.look(look) && look[1].value == 0 && one.life(0, 2) > 0);
+    look.add(kcas_check(0, KCAS_LT, 0));
+    CLAIM(!one.look(look));
+    puts.add(kcas_loc(0), KCAS_INCR);
+    CLAIM(refused_by([&] { one.look(puts); }).answer == KCAS_PUTS);
+    puts.add_fed(kcas_loc(0), KCAS_ADD, 1);
+    CLAIM(refused_by([&] { one.commit(puts); }).operation == 1);
+    kcas::transaction begins;
+    begins.add(kcas_say(1)).add(kcas_loc(0), KCAS_GET).or_else(kcas_fed_a(kcas_at(0, KCAS_ADD, 0, 0), 0));
+    CLAIM(refused_by([&] { one.commit(begins); }).operation == 2 && refused_by([&] { one.look(begins); }).operation == 2);
+    CLAIM(refused_by([&] { one.life(0, 5); }).answer == KCAS_BAD_OPS && refused_by([&] { one.life(0, 0); }).answer == KCAS_BAD_OPS);
+}
+
+void ends(kcas::caller &one, kcas::caller &other) {
+    kcas::transaction t;
+    t.add(kcas_check(0, KCAS_LT, 0));
+    std::thread waiter([&] { CLAIM(refused_by([&] { one.commit_waiting(t); }).answer == KCAS_CLOSED); });
+    std::this_thread::sleep_for(20ms);
+    other.end();
+    waiter.join();
+    CLAIM(refused_by([&] { one.commit_for(t, 1h); }).answer == KCAS_CLOSED && !one.commit(t));
+}
+
 void as_seen(kcas::caller &one, kcas::caller &other) {
     std::uint32_t seen = one.commit(kcas_loc(0), KCAS_GET).value;
     kcas::transaction act;
@@ -71,11 +99,13 @@ int main() {
     refusals(one);
     deadlines(one, other);
     as_seen(one, other);
+    fed_and_looked(one);
     // By kcas.h's own calls beside the class.
     kcas_op op = kcas_at(2, KCAS_INCR, 0, 0);
     kcas_reply reply;
     CLAIM(kcas_commit(one.bell(), one.get(), &op, 1, &reply, 1) == KCAS_DONE && callers[2].commit(kcas_loc(2), KCAS_GET).value == 1);
     one = std::move(other);
-    CLAIM(kcas_number(one.get()) == 1 && !kcas_is_open(other.get()));
+    CLAIM(kcas_number(one.get()) == 1 && !kcas_is_open(other.get()) && refused_by([&] { other.life(0, 1); }).answer == KCAS_CLOSED);
+    ends(one, callers[2]);
     return 0;
 }

@@ -84,6 +84,52 @@ with kcas.open(layout, callers=2) as (one, other):
     assert one.commit_as_seen(y.xchg(seen), y.get()) == [1, 1]
     raises(ValueError, lambda: one.commit_as_seen(*[x.get()] * 16), "16 operations")
 
+    # Fed by earlier replies, also where all is moved behind what was seen; what was no number feeds nothing.
+    assert one.commit(kcas.say(6), x.xchg(0).fed(0), y.cas(0, 0).fed_second(1), x.get())[3] == 6
+    assert one.commit(queue.deq(), x.add(0).fed(0), x.get()) == [kcas.EMPTY, kcas.EMPTY, 6]
+    one.commit(x.get())
+    assert one.commit_as_seen(kcas.say(9), x.set(0).fed(0), x.get())[2] == 9
+    assert raises(kcas.BadOps, lambda: one.commit(x.get(), x.set(0).fed(1)), "operation 1").operation == 1
+    assert raises(kcas.BadOps, lambda: one.commit(x.set(0).fed(0)), "no other can feed it").operation == 0
+    assert one.first([queue.deqw()], [kcas.say(4), x.set(0).fed(0), x.get()]) == [4, None, 4]
+    assert raises(kcas.BadOps, lambda: one.first([kcas.say(1), x.get()], [x.set(0).fed(0)]), "no other can feed it").operation == 2
+    assert raises(kcas.BadOps, lambda: one.commit(x.get(), x.update("max", 1).fed(0)), "operation 1").operation == 1
+
+    # Views, and how much of a life is gone.
+    assert one.look(x.get(), queue.len()) == [4, 0]
+    raises(kcas.Waits, lambda: one.look(queue.deqw()))
+    assert raises(kcas.Refused, lambda: one.look(x.incr()), "KCAS_PUTS").name == "KCAS_PUTS"
+    life = one.life(x)
+    one.add(x, 1)
+    assert one.life(x) == life + 1
+    assert raises(kcas.Refused, lambda: one.life(far)).name == "KCAS_BAD_OPS"
+
+    # Views that are all in vain: what only reads is committed, what may put ends.
+    real, views = kcas._lib.kcas_view, []
+    for vain in (kcas.BUSY, kcas.CHANGED):
+        kcas._lib.kcas_view = lambda *_: views.append(1) or vain
+        assert one.look(x.get(), queue.len()) == [5, 0] and len(views) == 8
+        raises(kcas.Waits, lambda: one.look(x.get(), x.check("eq", 77)))
+        views.clear()
+        assert raises(kcas.Refused, lambda: one.look(x.get(), queue.deq()), "64 views").name == "KCAS_CHANGED" and len(views) == 64
+        views.clear()
+    kcas._lib.kcas_view = real
+    assert one.look(x.get(), queue.deq()) == [5, kcas.EMPTY]
+
+    # Waits for room.
+    while one.commit(queue.enq(1)) == [None]:
+        pass
+    raises(kcas.Waits, lambda: one.commit(queue.enqw(1)))
+
+    # The end of all waits.
+    told = []
+    waiter = threading.Thread(target=lambda: told.append(raises(kcas.Refused, lambda: one.commit_waiting(queue.enqw(1)), "have ended").name))
+    waiter.start()
+    time.sleep(0.05)
+    other.end()
+    waiter.join()
+    assert told == ["KCAS_CLOSED"]
+
 # No wake is lost, with deadlines that come before an item does.
 EACH = 1000
 small, sums = kcas.Layout(), []

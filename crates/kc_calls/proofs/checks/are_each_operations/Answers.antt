@@ -1,6 +1,6 @@
 use Rattle.std.proofs.Common.{sym, ◌∙◌, true≢false}
 use Rattle.kc_calls.proofs.Fits.{each_there}
-use Rattle.kc_calls.specs.Operations.{IsOperation}
+use Rattle.kc_calls.specs.Meaning.{IsOperation}
 use Rattle.kc_calls.proofs.checks.are_each_operations.Goals as goal
 
 pub returns-then-not-is_operation : goal.returns-then-not-is_operation

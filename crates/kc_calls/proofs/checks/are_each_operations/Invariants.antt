@@ -1,5 +1,5 @@
 use Rattle.std.proofs.Common.{drop}
-use Rattle.kc_calls.specs.Operations.{IsOperation}
+use Rattle.kc_calls.specs.Meaning.{IsOperation}
 use Rattle.kc_term.specs.Fit.{Each}
 use Rattle.kc_calls.proofs.checks.are_each_operations.Given as goal
 

@@ -4,10 +4,10 @@ use Rattle.kc_sums.proofs.Totals.{view_exact}
 use Rattle.kc_sums.proofs.running.view_and_finish.Goals as goal
 
 pub finish_kept-requires-clause-all : goal.finish_kept-requires-clause-all
-finish_kept-requires-clause-all g c = c.serving_adds_up.ensures.all c.args.store _ (rw c.in_ok-callers.ensures (c.serving_adds_up.ensures.then _ _ _ c.requires.first c.in_ok-sum.ensures.serves, (c.requires.second, c.requires.opens.callers_are)))
+finish_kept-requires-clause-all g c = c.serving_adds_up.ensures.all c.args.store _ (rw c.in-Ok.ensures.all (c.serving_adds_up.ensures.then _ _ _ c.requires.first c.in_ok-sum.ensures.serves, (c.requires.second, c.requires.opens.callers_are)))
 
 pub finish_kept-requires-clause-only : goal.finish_kept-requires-clause-only
-finish_kept-requires-clause-only g c = c.serving_adds_up.ensures.only c.args.store _ (rw c.in_ok-callers.ensures (c.serving_adds_up.ensures.then _ _ _ c.requires.first c.in_ok-sum.ensures.serves, (c.requires.second, c.requires.opens.callers_are)))
+finish_kept-requires-clause-only g c = c.serving_adds_up.ensures.only c.args.store _ (rw c.in-Ok.ensures.all (c.serving_adds_up.ensures.then _ _ _ c.requires.first c.in_ok-sum.ensures.serves, (c.requires.second, c.requires.opens.callers_are)))
 
 pub finish_kept-requires-clause-opens : goal.finish_kept-requires-clause-opens
 finish_kept-requires-clause-opens g c = opens c.args.bank.now c.args.store _ _ c.requires.bank.total c.requires.opens

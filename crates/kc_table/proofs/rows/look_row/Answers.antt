@@ -7,7 +7,7 @@ use Rattle.kc_machine_words.specs.declared.access.Found.TheVariants as found
 use Rattle.kc_model.specs.Word.{unpacked}
 use Rattle.kc_model.specs.declared.footprint.Seen.{Seen}
 use Rattle.kc_table.proofs.Begins.{ready_begun}
-use Rattle.kc_table.proofs.Turns.{behind_idle, behind_made, looks_once, looks_quietly, looks_ready, reads_within, row_here, row_looks, row_ready}
+use Rattle.kc_table.proofs.Turns.{behind_idle, behind_made, look_found, looks_once, looks_quietly, looks_ready, reads_within, row_here, row_looks, row_ready}
 use Rattle.kc_table.proofs.Wholes.{look_aims, look_busy}
 use Rattle.kc_table.specs.Turns.{LooksAgain, seat_behind, none}
 use Rattle.kc_table_moves.specs.Origins.{Origin}
@@ -85,6 +85,7 @@ returns-then-not-says-clause-until c = λ _.
           c.tell.ensures.back (c.tell.ensures.answered ∙ ap (λ s. seat_answered (begun s (Look r.loc)) (found.Word (unpacked n))) c.end_row.ensures);
       once = looks_once c.loop-i.token.table_id c.load_again-number.new.token.table_id me c.load_again-number.new.token.me c.loop-i.pends u c.tell.new.seat r.loc n idle c.loop-i.invariant.ready within c.load_again-number.ensures.table c.load_again-number.ensures.moved
           c.tell.ensures.back (c.tell.ensures.answered ∙ ap (λ s. seat_answered (begun s (Look r.loc)) (found.Word (unpacked n))) c.end_row.ensures);
+      differs = λ x. c.says.ensures.misses c.if-not-says.true (look_found u c.tell.new.seat r (unpacked n) idle (c.tell.ensures.answered ∙ ap (λ s. seat_answered (begun s (Look r.loc)) (found.Word (unpacked n))) c.end_row.ensures) x.idle x.told);
     }
 
 pub loop-i-preserved : goal.loop-i-preserved

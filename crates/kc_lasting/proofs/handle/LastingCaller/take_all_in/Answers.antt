@@ -1,7 +1,6 @@
-use Rattle.std.proofs.Common.{◌≡◌, ◌∷◌, List, true, rules, subst, sym}
+use Rattle.std.proofs.Common.{◌≡◌, ◌∷◌, true, rules, subst, sym}
 use Rattle.kc_lasting.proofs.Gathering.{Gathers, gathers_first, gathers_more}
 use Rattle.kc_lasting.specs.Told.{standing_of}
-use Rattle.kc_lasting.specs.declared.handle.LastingCaller.{LastingCaller}
 use Rattle.kc_lasting.proofs.handle.LastingCaller.take_all_in.Goals as goal
 
 pub loop-other-init : goal.loop-other-init

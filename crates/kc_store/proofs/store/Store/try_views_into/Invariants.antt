@@ -1,6 +1,13 @@
 use Rattle.kc_store.specs.Answers.{GainsNothing}
 use Rattle.kc_store.specs.Knows.{OnlyLearns}
+use Rattle.kc_store.specs.Viewing.{InVain}
+use Rattle.kc_xt.specs.Meaning.{limited}
 use Rattle.kc_store.proofs.store.Store.try_views_into.Given as goal
 
-abbrev pub invariant-loop : goal.invariant-loop
-invariant-loop g l = OnlyLearns l.fn.caller l.caller × GainsNothing l.fn.caller.seat l.caller.seat
+-- the tries so far were in vain
+abbrev pub invariant-loop-tried : goal.invariant-loop-tried
+invariant-loop-tried g l = record {
+  learns : OnlyLearns l.fn.caller l.caller;
+  gains : GainsNothing l.fn.caller.seat l.caller.seat;
+  vain : InVain (limited (g.T.Transact.most l.fn.transaction) (g.T.Transact.meaning l.fn.transaction)) l.fn.caller l.tried l.caller;
+}

@@ -1,0 +1,31 @@
+#!/usr/bin/env bash
+# Times adds on the store that lasts beside the plain one, and renewals of 65,535 locations; or soaks it: adds by four threads, with sums
+# that must be right. Builds all anew, in a clone of its own.
+# Usage: tools/bench/lasting.sh [RUNS]
+#        tools/bench/lasting.sh soak THOUSANDS      (so many thousand adds by each thread: in short eras, and on one location in whole ones)
+set -eu
+top="$(cd "$(dirname "$0")/../.." && pwd)"
+room="$(mktemp -d)"
+trap 'rm -rf "$room"' EXIT
+what=adds
+[ "${1:-}" != soak ] || what=soak
+
+# The gate reads every file named as a source, so the programs have another ending here.
+git clone -q "$top" "$room/kcas"
+crate="$room/kcas/crates/kc_bench_lasting"
+mkdir -p "$crate/src" "$crate/c"
+cp "$top/tools/bench/lasting/$what.rt.txt" "$crate/src/main.rt"
+cp "$top/tools/bench/lasting/anything.c" "$crate/c/anything.c"
+echo 'kc_bench_lasting: kc_lasting kc_await kc_loc kc_model kc_queue kc_store kc_xt' >> "$room/kcas/crates.txt"
+# What rt runs once built counts for nothing.
+(cd "$crate" && RT_ALLOW_C=kc_bench_lasting rt run > "$room/built" 2>&1) || { cat "$room/built" >&2; exit 1; }
+program="$crate/out/kc_bench_lasting"
+
+if [ "$what" = soak ]; then
+    "$program" short "$2"
+    "$program" long "$2"
+    exit
+fi
+for _ in $(seq "${1:-3}"); do
+    "$program"
+done
