@@ -1,5 +1,6 @@
 use Rattle.std.proofs.Common.{◌≡◌, ◌∙◌, false, arith}
 use Rattle.kc_hang.specs.kc_machine.Seats.{is_idle}
+use Rattle.kc_hang.proofs.kc_table_laws.Keeping.{keeps_then, steps_keep}
 use Rattle.kc_store.proofs.Counting.{step_counts}
 use Rattle.kc_store.proofs.Doing.{may_run_further}
 use Rattle.kc_store.proofs.Mute.{looks_mutely}
@@ -21,6 +22,7 @@ steps-preserved c =
       shown = c.step.ensures.stepped.began;
       halted = still_halted c.steps.seat c.step.new.seat (c.steps.invariant.halted busy) c.step.ensures.stepped;
       runs = λ v t r. may_run_further v c.steps.seat c.step.new.seat t (c.steps.invariant.runs v t r) busy c.step.ensures.stepped;
+      keeps = keeps_then c.args.seat.now c.steps.seat c.step.new.seat c.steps.invariant.keeps (steps_keep c.steps.seat c.step.new.seat c.step.ensures.stepped);
       made = omega (arith, n, m);
       mute = λ e. looks_mutely c.steps.seat c.step.new.seat c.steps.wakes c.step.new.wakes c.step.ensures.stepped busy c.step.ensures.wakes c.args.wakes.now (c.steps.invariant.mute e);
     }

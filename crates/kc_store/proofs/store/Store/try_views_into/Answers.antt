@@ -17,6 +17,11 @@ returns-then-is_settled-clause-glimpsed g c = λ e.
     let x = c.try_view_into-glimpse in
     glimpsed_from m x.result c.args.caller.now c.loop-tried.caller x.new.footprint x.new.caller e c.loop-tried.invariant.learns x.ensures.glimpsed
 
+pub returns-then-is_settled-clause-tries : goal.returns-then-is_settled-clause-tries
+returns-then-is_settled-clause-tries g c = λ e.
+    let x = c.try_view_into-glimpse in
+    record { tries = c.loop-tried.tried; few = c.loop-tried.below; from = c.loop-tried.caller; vain = c.loop-tried.invariant.vain; glimpsed = x.ensures.glimpsed; looks = x.ensures.looks e; learns = x.ensures.learns }
+
 pub returns-then-is_settled-clause-vain : goal.returns-then-is_settled-clause-vain
 returns-then-is_settled-clause-vain g c = λ e. let t = sym c.is_settled.ensures ∙ c.if-is_settled.true in absurd (cc)
 
