@@ -23,7 +23,7 @@ returns-then-busy-clause-runs c = λ v t r. c.step_to_the_end.ensures.runs v t (
 pub returns-then-busy-clause-keeps : goal.returns-then-busy-clause-keeps
 returns-then-busy-clause-keeps c =
     let k = c.step_on.ensures.keeps in
-    keeps_then c.args.seat.now c.halt.new.seat c.step_to_the_end.new.seat (subst (KeepsKnown c.args.seat.now) (sym c.halt.ensures) (record { of = k.of; number = k.number; past = k.past; grows = k.grows; reads = k.reads; versions = k.versions })) c.step_to_the_end.ensures.keeps
+    keeps_then c.args.seat.now c.halt.new.self c.step_to_the_end.new.seat (subst (KeepsKnown c.args.seat.now) (sym c.halt.ensures) (record { of = k.of; number = k.number; past = k.past; grows = k.grows; reads = k.reads; versions = k.versions })) c.step_to_the_end.ensures.keeps
 
 pub returns-then-busy-clause-mute : goal.returns-then-busy-clause-mute
 returns-then-busy-clause-mute c = λ e.

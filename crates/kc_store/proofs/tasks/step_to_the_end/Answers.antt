@@ -1,11 +1,22 @@
-use Rattle.std.proofs.Common.{◌≡◌, ◌∙◌, false, arith}
+use Rattle.std.proofs.Common.{◌≡◌, ◌∙◌, false, refl, arith}
 use Rattle.kc_hang.specs.kc_machine.Seats.{is_idle}
-use Rattle.kc_hang.proofs.kc_table_laws.Keeping.{keeps_then, steps_keep}
+use Rattle.kc_hang.proofs.kc_table_laws.Keeping.{keeps_same, keeps_then, steps_keep}
 use Rattle.kc_store.proofs.Counting.{step_counts}
 use Rattle.kc_store.proofs.Doing.{may_run_further}
 use Rattle.kc_store.proofs.Mute.{looks_mutely}
 use Rattle.kc_store.proofs.Ending.{busy_is, falls, still_halted}
 use Rattle.kc_store.proofs.tasks.step_to_the_end.Goals as goal
+
+pub steps-init : goal.steps-init
+steps-init c = record {
+  of = refl;
+  shown = c.requires.shown;
+  halted = c.requires.halted;
+  runs = λ v t r. r;
+  keeps = keeps_same c.args.seat.now;
+  made = omega arith;
+  mute = λ e. (e, refl);
+}
 
 pub steps-smaller : goal.steps-smaller
 steps-smaller c =
