@@ -67,7 +67,7 @@ enum {
 };
 
 /* Where a structure lies: its kind, its first location, its sizes. What its kind doesn't use is not looked at.
- * Structures that overlap are the program's to avoid: kcas_cells says how many locations one takes. */
+ * Structures that overlap are the program's to avoid: kcas_lay lays one behind another, and kcas_cells says how many locations one takes. */
 typedef struct kcas_object {
     uint32_t kind, base, capacity, buckets;
 } kcas_object;
@@ -206,6 +206,11 @@ uint32_t kcas_cells(const kcas_object *object);
 /* Writes the values that the structure's cells open with, to values[0] and on: KCAS_DONE. KCAS_BAD_SIZE where there is no
  * such structure, or fewer values than it has cells; then none is written. */
 uint32_t kcas_opening(const kcas_object *object, uint32_t *values, size_t room);
+
+/* Lays a structure right behind the first *end values: its base becomes *end, the values from there on what its cells open with, and *end
+ * is then behind them: KCAS_DONE. What is laid so doesn't overlap. KCAS_BAD_SIZE, and nothing changes, where there is no such structure, the
+ * `room` values have no room for its cells, or are more than 65,536. */
+uint32_t kcas_lay(kcas_object *object, uint32_t *values, size_t room, uint32_t *end);
 
 /* Opens a store whose locations have these values, at most 65,536, and each handle as one of its callers, 1 to 64:
  * KCAS_DONE. Or KCAS_BAD_SIZE, by the counts alone: neither values nor handles are looked at; else KCAS_IS_OPEN where one of them was

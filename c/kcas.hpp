@@ -177,10 +177,9 @@ public:
     explicit layout(std::size_t first = 0) : values_(first) {}
     object add(object o) {
         o.base = static_cast<std::uint32_t>(values_.size());
-        std::size_t cells = kcas_cells(&o);
-        if (cells == 0) throw refused(KCAS_BAD_SIZE);
-        values_.resize(values_.size() + cells);
-        kcas_opening(&o, values_.data() + o.base, cells);
+        std::uint32_t end = o.base;
+        values_.resize(values_.size() + kcas_cells(&o));
+        if (kcas_lay(&o, values_.data(), values_.size(), &end) != KCAS_DONE) throw refused(KCAS_BAD_SIZE);
         return o;
     }
     const std::vector<std::uint32_t> &values() const { return values_; }

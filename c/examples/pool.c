@@ -75,14 +75,17 @@ static void enter(kcas_caller *caller, kcas_object queue, uint32_t job) {
 }
 
 int main(void) {
-    uint32_t values[256] = { 0 }, room = 0;
+    uint32_t values[256] = { 0 }, end = 0;
     pthread_t threads[CALLERS];
     queues[URGENT] = kcas_queue(0, 8);
-    queues[PLAIN] = kcas_queue(room += kcas_cells(&queues[URGENT]), 32);
-    results = kcas_cache(room += kcas_cells(&queues[PLAIN]), 8, 16);
-    entered = room += kcas_cells(&results);
-    done = entered + 1;
-    kcas_opening(&results, values + results.base, 256 - results.base);
+    queues[PLAIN] = kcas_queue(0, 32);
+    results = kcas_cache(0, 8, 16);
+    kcas_object *laid[] = { &queues[URGENT], &queues[PLAIN], &results };
+    for (int i = 0; i < 3; i++) {
+        if (kcas_lay(laid[i], values, 256, &end) != KCAS_DONE) return 1;
+    }
+    entered = end;
+    done = end + 1;
     if (kcas_open(values, 256, callers, CALLERS) != KCAS_DONE) return 1;
     for (int i = 0; i < WORKERS; i++) pthread_create(&threads[i], NULL, work, &callers[i]);
     pthread_create(&threads[AUDITOR], NULL, audit, &callers[AUDITOR]);

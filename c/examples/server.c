@@ -78,9 +78,7 @@ static void *ask(void *at) {
 
 /* Lays a structure behind the others. */
 static kcas_object lay(uint32_t values[256], uint32_t *end, kcas_object object) {
-    object.base = *end;
-    if (kcas_opening(&object, values + *end, 256 - *end) != KCAS_DONE) abort();
-    *end += kcas_cells(&object);
+    if (kcas_lay(&object, values, 256, end) != KCAS_DONE) abort();
     return object;
 }
 

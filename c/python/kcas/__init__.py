@@ -31,6 +31,7 @@ DONE, LATER, LOST, BUSY, PUTS, CHANGED, CLOSED, BAD_OPS, BAD_SIZE = 0, 1, 5, 6, 
 OR, FED_A, FED_B, FED_BOTH = 1, 2, 3, 4
 GOING, HUNG, LEAVING, QUIET = 32, 33, 34, 36
 MOST_OPS, MOST_ALTERNATIVES = 16, 4
+_MOST_LOCATIONS = 65536
 
 _VERBS, _KINDS, _FUNCTIONS, _RELATIONS = (
     {word: number for number, word in enumerate(words, 1)}
@@ -106,7 +107,7 @@ def _library() -> ctypes.CDLL:
         ("version", ctypes.c_char_p, []),
         ("answer_name", ctypes.c_char_p, [word]),
         ("cells", word, [ctypes.POINTER(_Object)]),
-        ("opening", word, [ctypes.POINTER(_Object), words, size]),
+        ("lay", word, [ctypes.POINTER(_Object), words, size, words]),
         ("open", word, [words, size, handle, size]),
         ("close", word, [handle]),
         ("try", word, [handle, ctypes.POINTER(_Op), size, ctypes.POINTER(_Reply), size, wakes]),
@@ -437,21 +438,23 @@ class Layout:
     """Structures that lie one behind another, and the values that they open with."""
 
     def __init__(self) -> None:
-        self.values: List[int] = []
+        self._values = (ctypes.c_uint32 * _MOST_LOCATIONS)()
+        self._end = ctypes.c_uint32(0)
+
+    @property
+    def values(self) -> List[int]:
+        return self._values[: self._end.value]
 
     def _add(self, kind: str, capacity: int = 0, buckets: int = 0) -> _Object:
-        raw = _Object(_KINDS[kind], len(self.values), _word(capacity), _word(buckets))
-        cells = _lib.kcas_cells(ctypes.byref(raw))
-        values = (ctypes.c_uint32 * cells)()
-        if cells == 0 or _lib.kcas_opening(ctypes.byref(raw), values, cells) != DONE:
-            raise Refused(BAD_SIZE, "a %s of capacity %d and %d buckets can't lie at location %d" % (kind, capacity, buckets, len(self.values)))
-        self.values.extend(values)
+        raw = _Object(_KINDS[kind], 0, _word(capacity), _word(buckets))
+        if _lib.kcas_lay(ctypes.byref(raw), self._values, _MOST_LOCATIONS, ctypes.byref(self._end)) != DONE:
+            raise Refused(BAD_SIZE, "a %s of capacity %d and %d buckets can't lie at location %d" % (kind, capacity, buckets, self._end.value))
         return raw
 
     def loc(self, value: int = 0) -> Loc:
         word = _word(value)
         made = Loc(self._add("loc"))
-        self.values[-1] = word
+        self._values[self._end.value - 1] = word
         return made
 
     def stack(self, capacity: int) -> Stack:
@@ -662,7 +665,8 @@ class Caller:
 @contextlib.contextmanager
 def open(layout: Layout, callers: int = 1) -> Iterator[List[Caller]]:
     """A store with a layout's structures, and so many callers of it, 1 to 64. They are closed behind the `with`: end their threads before."""
-    values = (ctypes.c_uint32 * len(layout.values))(*layout.values)
+    laid = layout.values
+    values = (ctypes.c_uint32 * len(laid))(*laid)
     handles = (_Handle * callers)()
     answer = _lib.kcas_open(values, len(values), handles, callers)
     if answer != DONE:

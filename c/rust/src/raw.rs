@@ -76,7 +76,7 @@ extern "C" {
     pub fn kcas_signalled(caller: *mut Handle) -> u32;
     pub fn kcas_leave(caller: *mut Handle) -> u32;
     pub fn kcas_cells(object: *const Object) -> u32;
-    pub fn kcas_opening(object: *const Object, values: *mut u32, room: usize) -> u32;
+    pub fn kcas_lay(object: *mut Object, values: *mut u32, room: usize, end: *mut u32) -> u32;
     fn kcas_version() -> *const c_char;
     fn kcas_answer_name(answer: u32) -> *const c_char;
 }

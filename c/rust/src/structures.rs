@@ -1,7 +1,7 @@
 //! Structures, and their operations.
 
 use crate::numbers::*;
-use crate::raw::{kcas_cells, kcas_opening};
+use crate::raw::{kcas_cells, kcas_lay};
 use crate::refused::Refused;
 
 #[repr(C)]
@@ -350,14 +350,11 @@ impl Layout {
     }
 
     fn add(&mut self, kind: u32, capacity: u32, buckets: u32) -> Result<Object, Refused> {
-        let first = self.values.len();
-        let made = object(kind, first as u32, capacity, buckets);
+        let mut end = self.values.len() as u32;
+        let mut made = object(kind, end, capacity, buckets);
         let cells = unsafe { kcas_cells(&made) } as usize;
-        if cells == 0 {
-            return Err(Refused::BadSize);
-        }
-        self.values.resize(first + cells, 0);
-        match unsafe { kcas_opening(&made, self.values[first..].as_mut_ptr(), cells) } {
+        self.values.resize(self.values.len() + cells, 0);
+        match unsafe { kcas_lay(&mut made, self.values.as_mut_ptr(), self.values.len(), &mut end) } {
             DONE => Ok(made),
             answer => Err(Refused::of(answer)),
         }

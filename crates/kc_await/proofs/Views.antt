@@ -6,7 +6,7 @@ use Rattle.kc_await.specs.Viewing.{EndsAtLast, IsCommittedAtLast, IsViewedAtLast
 use Rattle.kc_model.specs.declared.footprint.Footprint.{Footprint}
 use Rattle.kc_store.specs.Knows.{OnlyLearns, entry_of}
 use Rattle.kc_store.specs.Verdicts.{is_worn_pool, verdict_of}
-use Rattle.kc_store.specs.Viewing.{IsGlimpsed, viewed_as}
+use Rattle.kc_store.specs.Viewing.{GlimpsesAtLast, IsGlimpsed, viewed_as}
 use Rattle.kc_store.specs.Views.{CallerView}
 use Rattle.kc_store.specs.declared.verdict.Answered.{Answered}
 use Rattle.kc_store.specs.declared.verdict.Answered.TheVariants as answered
@@ -38,13 +38,13 @@ viewed_at_last m a x c f d e n g o = go a e n g
     go glimpse.Changed e n g = absurd (cc)
     go (glimpse.Busy steps) e n g = absurd (cc)
 
-pub ends_at_last : (m : Meaning) (a : Glimpse) (x : Viewed) (c : CallerView) (f : Footprint) (d : CallerView) → Some x ≡ viewed_as a → is_put_off a ≡ false → IsGlimpsed m a c f d → EndsAtLast m x c f d
+pub ends_at_last : (m : Meaning) (a : Glimpse) (x : Viewed) (c : CallerView) (f : Footprint) (d : CallerView) → Some x ≡ viewed_as a → is_put_off a ≡ false → GlimpsesAtLast m a c f d → EndsAtLast m x c f d
 ends_at_last m a x c f d e n g = go a e n g
   where
     at : (y : Viewed) → Some x ≡ Some y → EndsAtLast m y c f d → EndsAtLast m x c f d
     at y e v = let q : x ≡ y = cc in subst (λ z. EndsAtLast m z c f d) (sym q) v
 
-    go : (a : Glimpse) → Some x ≡ viewed_as a → is_put_off a ≡ false → IsGlimpsed m a c f d → EndsAtLast m x c f d
+    go : (a : Glimpse) → Some x ≡ viewed_as a → is_put_off a ≡ false → GlimpsesAtLast m a c f d → EndsAtLast m x c f d
     go (glimpse.Done r) e n g = at (viewed.Done r) e g
     go glimpse.Later e n g = absurd (cc)
     go glimpse.TooLarge e n g = at viewed.TooLarge e g

@@ -5,7 +5,7 @@ use Rattle.kc_await.specs.Waiting.{CommitsAtLast}
 use Rattle.kc_model.specs.declared.footprint.Footprint.{Footprint}
 use Rattle.kc_store.specs.Knows.{NotesWear, OnlyLearns}
 use Rattle.kc_store.specs.Verdicts.{verdict_of}
-use Rattle.kc_store.specs.Viewing.{InVain, IsGlimpsed, IsViewed}
+use Rattle.kc_store.specs.Viewing.{GlimpsesAtLast, InVain, IsViewed}
 use Rattle.kc_store.specs.Views.{CallerView}
 use Rattle.kc_store.specs.declared.verdict.Answered.{Answered}
 use Rattle.kc_store.specs.declared.verdict.Answered.TheVariants as answered
@@ -39,14 +39,14 @@ IsViewedAtLast m (viewed.Committed a) c f d = IsCommittedAtLast m a c f d
 -- views one after another, each of which would wait, and behind each a hang on what it read
 pub data HungOnViews (m : Meaning) (c : CallerView) : CallerView → Type 0 where
   none : HungOnViews m c c
-  again : (d e g : CallerView) (f : Footprint) → HungOnViews m c d → IsGlimpsed m glimpse.Later d f e → OnlyLearns d e → Hangs f.reads e.seat g.seat → OnlyLearns e g → HungOnViews m c g
+  again : (d e g : CallerView) (f : Footprint) → HungOnViews m c d → GlimpsesAtLast m glimpse.Later d f e → OnlyLearns d e → Hangs f.reads e.seat g.seat → OnlyLearns e g → HungOnViews m c g
 
 -- a view that doesn't wait, or behind all tries in vain a commit that may
 abbrev pub EndsAtLast : Meaning → Viewed → CallerView → Footprint → CallerView → Type 0
-EndsAtLast m (viewed.Done r) c f d = IsGlimpsed m (glimpse.Done r) c f d
+EndsAtLast m (viewed.Done r) c f d = GlimpsesAtLast m (glimpse.Done r) c f d
 EndsAtLast m viewed.Later c f d = ⊥
-EndsAtLast m viewed.TooLarge c f d = IsGlimpsed m glimpse.TooLarge c f d
-EndsAtLast m viewed.Puts c f d = IsGlimpsed m glimpse.Puts c f d
+EndsAtLast m viewed.TooLarge c f d = GlimpsesAtLast m glimpse.TooLarge c f d
+EndsAtLast m viewed.Puts c f d = GlimpsesAtLast m glimpse.Puts c f d
 EndsAtLast m (viewed.Committed a) c f d = (from : CallerView) × InVain m c MOST_VIEWS from × CommitsAtLast m a f from.seat d.seat
 
 -- what came of it, behind its hangs

@@ -27,8 +27,13 @@ values_at q = map (opening_of q).value (count_from 0 q.locations)
 abbrev pub values_of : StoreView → List ℕ
 values_of z = values_at z.table.origin
 
-abbrev pub values_in : PastView → List ℕ
-values_in p = values_at p.past.origin
+-- what is left of a store: the values with which it opened, and its one history
+pub record KcasPastView : Type 0 where
+  pub opening : List ℕ
+  pub history : List Entry
+
+abbrev pub kcas_past : PastView → KcasPastView
+kcas_past p = record { opening = values_at p.past.origin; history = p.history }
 
 -- each location opened at version 0
 pub record OpensAtZero (z : StoreView) : Type 0 where

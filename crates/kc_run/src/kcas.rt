@@ -2,15 +2,16 @@
 
 ghost use Rattle.std.specs.Prelude.{◌≡◌, ◌↔◌, ◌<◌, ◌≤◌, ◌⊎◌, All, Err, IfOk, length, map, true};
 ghost use Rattle.kc_history.specs.Callers.{of_caller, IsBelowCallers, IsLegalFrom};
-ghost use Rattle.kc_run.specs.Kcas.{AllKcDealt, BelongsTo, LastIsWorn, OpenedForCallers, values_in, values_of};
+ghost use Rattle.kc_run.specs.Kcas.{AllKcDealt, BelongsTo, LastIsWorn, OpenedForCallers, values_of};
 ghost use Rattle.kc_table_moves.specs.Views.{count_from};
 
+use crate::past::KcasPast;
 use crate::shared::Shared;
 use kc_await::commit_waiting_into;
 use kc_locked::MOST_CALLERS;
 use kc_model::{Answer, Footprint, Loc, MOST_LOCATIONS, NoMemory, OpenError};
 use kc_script_bundle::{Command, MOST_COMMANDS};
-use kc_store::{Answered, Caller, Past, Store};
+use kc_store::{Answered, Caller, Store};
 use kc_xt::Transact;
 use std::alloc::Global;
 use std::marker::Model;
@@ -37,11 +38,11 @@ impl Model for KcShared {
 /// A pass is a caller that has made commits that wait, and nothing else.
 impl Shared for KcShared {
     ghost use Rattle.std.specs.Prelude.{true};
-    ghost use Rattle.kc_run.specs.Kcas.{BelongsTo, left_in, values_in, values_of};
+    ghost use Rattle.kc_run.specs.Kcas.{BelongsTo, left_in, values_of};
 
     type Pass = Caller;
 
-    type Whole = Past;
+    type Whole = KcasPast;
 
     ghost belongs = { BelongsTo };
 
@@ -57,7 +58,7 @@ impl Shared for KcShared {
 
     ghost enters_looks = { true };
 
-    ghost began = { values_in };
+    ghost began = { λ p. p.opening };
 
     ghost history = { λ p. p.history };
 
@@ -80,16 +81,16 @@ impl Shared for KcShared {
         }
     }
 
-    fn finish(self, callers: Vec<Caller>) -> Past
+    fn finish(self, callers: Vec<Caller>) -> KcasPast
         requires passes { All (BelongsTo self) callers.items }
         requires all { map (λ c. c.number) callers.items ≡ count_from 0 self.callers }
-        ensures began { values_in result ≡ values_of self }
+        ensures began { result.opening ≡ values_of self }
         ensures legal { IsLegalFrom (values_of self) result.history }
         ensures own { All (λ c. of_caller c.number result.history ≡ c.own) callers.items }
         ensures nobody_else { IsBelowCallers self.callers result.history }
     {
         let KcShared { store } = self;
-        store.finish(callers)
+        KcasPast::of(store.finish(callers))
     }
 }
 

@@ -35,7 +35,7 @@ use Rattle.kc_store.proofs.Remembering.{entries_within, within_on}
 use Rattle.kc_hang.proofs.kc_table_laws.Running.{ran_same}
 use Rattle.kc_store.proofs.Settling.{looked_keeps, looked_worn, looked_none as looked_none_own, settles_from}
 use Rattle.kc_store.specs.Answers.{PutsNothing, Settles, own_entries}
-use Rattle.kc_store.specs.Knows.{AddsOne, IsTold, IsWithin, NotesWear, OnlyLearns, entry_of}
+use Rattle.kc_store.specs.Knows.{AddsOne, IsTold, IsWithin, NotesWear, OnlyLearns, Remembers, entry_of}
 use Rattle.kc_store.specs.Tries.{Did, Sees}
 use Rattle.kc_store.specs.Verdicts.{is_final, is_worn_pool, verdict_of}
 use Rattle.kc_store.specs.Viewing.{FrontMakes, Glances, Glimpses, InVain, IsCommittedSo, IsGlimpsed, IsViewed, StandsAtOnce, WouldPut, is_settled, is_worn_went, stands_as, viewed_as}
@@ -308,10 +308,11 @@ final_verdict (answered.WornLocation loc) = refl
 final_verdict answered.WornPool = refl
 
 pub committed_from : (m : Meaning) (a : Answered) (c d : CallerView) (f : Footprint) (e : CallerView) → OnlyLearns c d → own_entries d.seat ≡ own_entries c.seat → InVain m c MOST_VIEWS d → IsTold m (verdict_of a) d f e → Settles m (verdict_of a) d.seat f e.seat
-    → (d.worn ≡ true → a ≡ answered.WornPool) → NotesWear d (verdict_of a) e → IsCommittedSo m a c f e
-committed_from m a c d f e o none vain told settles worn notes = record {
+    → (d.worn ≡ true → a ≡ answered.WornPool) → NotesWear d (verdict_of a) e → Remembers d e → IsCommittedSo m a c f e
+committed_from m a c d f e o none vain told settles worn notes remembers = record {
   from = d;
   vain = vain;
+  remembers = remembers;
   commits = told;
   told = told_from m a c d f e o told;
   settles = settles_from m (verdict_of a) c.seat d.seat f e.seat (final_verdict a) o.remembers.keeps none settles;

@@ -1,18 +1,20 @@
 -- Views: what is answered of reads that stood at one moment, without an entry.
-use Rattle.std.specs.Prelude.{◌≡◌, ◌≢◌, ◌≤◌, ◌⊎◌, ℕ, ◌+◌, [], Bool, true, false, List, Option, Some, None, take}
+use Rattle.std.specs.Prelude.{◌≡◌, ◌≢◌, ◌<◌, ◌≤◌, ◌⊎◌, ℕ, ◌+◌, [], Bool, true, false, List, Option, Some, None, take}
 use Rattle.kc_hang.specs.kc_machine_traces.Histories.{made}
 use Rattle.kc_hang.specs.kc_table_laws.Confirmed.{StoodForGood}
 use Rattle.kc_hang.specs.kc_table_laws.Tasks.{KeepsKnown}
 use Rattle.kc_hang.specs.kc_table_moves.Views.{SeatView}
+use Rattle.kc_machine_steps.specs.declared.task.Task.TheVariants as task
 use Rattle.kc_model.specs.Store.{Finds, Store}
 use Rattle.kc_model.specs.declared.footprint.Entry.{Entry}
 use Rattle.kc_model.specs.declared.footprint.Footprint.{Footprint}
 use Rattle.kc_model.specs.declared.footprint.Loc.{Loc}
+use Rattle.kc_model.specs.declared.footprint.Seen.{Seen}
 use Rattle.kc_model.specs.declared.reply.Answer.TheVariants as answer
 use Rattle.kc_model.specs.declared.reply.Reply.{Reply}
 use Rattle.kc_store.specs.Answers.{IsBusy, PutsNothing, Settles, own_entries}
-use Rattle.kc_store.specs.Knows.{IsTold, IsWithin, NotesWear, OnlyLearns}
-use Rattle.kc_store.specs.Tries.{Sees}
+use Rattle.kc_store.specs.Knows.{IsTold, IsWithin, NotesWear, OnlyLearns, Remembers}
+use Rattle.kc_store.specs.Tries.{Did, Sees}
 use Rattle.kc_store.specs.Verdicts.{has_entry, verdict_of}
 use Rattle.kc_store.specs.Views.{CallerView, store_opening}
 use Rattle.kc_store.specs.Works.{Advances, StaysWorn}
@@ -25,7 +27,7 @@ use Rattle.kc_store.specs.declared.viewing.Sight.TheVariants as sight
 use Rattle.kc_store.specs.declared.viewing.Viewed.{Viewed}
 use Rattle.kc_store.specs.declared.viewing.Viewed.TheVariants as viewed
 use Rattle.kc_store.specs.declared.viewing.TheConstants.{MOST_VIEWS}
-use Rattle.kc_table.specs.Turns.{LooksUntil}
+use Rattle.kc_table.specs.Turns.{LooksAgain, LooksUntil}
 use Rattle.kc_xt.specs.Commit.{Answers, Looked, Waits, Wears}
 use Rattle.kc_xt.specs.Meaning.{Meaning}
 use Rattle.kc_xt.specs.declared.attempts.Tried.{Tried}
@@ -69,13 +71,26 @@ glimpse_as (sight.Busy steps) t = glimpse.Busy steps
 abbrev pub WouldPut : Meaning → Footprint → Type 0
 WouldPut m f = ((r : Reply) × Answers m (answer.Reply r) f × (f.puts.items ≢ [])) ⊎ ((loc : Loc) × Wears m loc.0 f)
 
--- the transaction looked, and of the second looks at what it had read one didn't find it
-pub record MissesOne (m : Meaning) (v : SeatView) (f : Footprint) : Type 0 where
+-- by the looks of the transaction, and then one at each read again, which found it
+pub record LooksTwice (m : Meaning) (v : SeatView) (f : Footprint) (w : SeatView) : Type 0 where
   pub tried : Tried
   pub seen : SeatView
   pub looked : Looked (Sees v) m tried v f seen
+  pub again : LooksAgain seen f.reads.items w
+
+-- of looks at these reads again one didn't find its read, by its first step; it has ended since
+pub record MissesARead (v : SeatView) (rs : List Seen) (w : SeatView) : Type 0 where
   pub last : SeatView
-  pub missed : LooksUntil seen f.reads.items last
+  pub until : LooksUntil v rs last
+  pub behind : KeepsKnown last w
+  pub ended : Did until.u (task.Look until.r.loc) w
+
+-- the transaction looked, and of the second looks at what it had read one didn't find it
+pub record MissesOne (m : Meaning) (v : SeatView) (f : Footprint) (w : SeatView) : Type 0 where
+  pub tried : Tried
+  pub seen : SeatView
+  pub looked : Looked (Sees v) m tried v f seen
+  pub missed : MissesARead seen f.reads.items w
 
 -- the answer is the meaning's wherever the footprint's reads stand, and they all stood at one moment since it began, for good
 abbrev pub Glimpses : Meaning → Glimpse → SeatView → Footprint → SeatView → Type 0
@@ -83,7 +98,7 @@ Glimpses m (glimpse.Done r) v f w = Answers m (answer.Reply r) f × PutsNothing 
 Glimpses m glimpse.Later v f w = Waits m f × PutsNothing f × StoodForGood v f w
 Glimpses m glimpse.TooLarge v f w = Answers m answer.TooLarge f × PutsNothing f × StoodForGood v f w
 Glimpses m glimpse.Puts v f w = WouldPut m f × StoodForGood v f w
-Glimpses m glimpse.Changed v f w = MissesOne m v f
+Glimpses m glimpse.Changed v f w = MissesOne m v f w
 Glimpses m (glimpse.Busy steps) v f w = IsBusy v steps w
 
 -- ---- by a caller
@@ -110,7 +125,7 @@ IsGlimpsed m (glimpse.Done r) c f d = Answers m (answer.Reply r) f × PutsNothin
 IsGlimpsed m glimpse.Later c f d = Waits m f × PutsNothing f × StandsAtOnce f c d
 IsGlimpsed m glimpse.TooLarge c f d = Answers m answer.TooLarge f × PutsNothing f × StandsAtOnce f c d
 IsGlimpsed m glimpse.Puts c f d = WouldPut m f × StandsAtOnce f c d
-IsGlimpsed m glimpse.Changed c f d = MissesOne m c.seat f
+IsGlimpsed m glimpse.Changed c f d = MissesOne m c.seat f d.seat
 IsGlimpsed m (glimpse.Busy steps) c f d = IsBusy c.seat steps d.seat
 
 -- it isn't tried again
@@ -136,10 +151,21 @@ pub data InVain (m : Meaning) (c : CallerView) : ℕ → CallerView → Type 0 w
   none : InVain m c 0 c
   more : (n : ℕ) (d : CallerView) (a : Glimpse) (f : Footprint) (e : CallerView) → InVain m c n d → is_settled a ≡ false → IsGlimpsed m a d f e → OnlyLearns d e → InVain m c (n + 1) e
 
+-- behind some tries in vain one was answered so, by its own looks
+pub record GlimpsesAtLast (m : Meaning) (a : Glimpse) (c : CallerView) (f : Footprint) (d : CallerView) : Type 0 where
+  pub tries : ℕ
+  pub few : tries < MOST_VIEWS
+  pub from : CallerView
+  pub vain : InVain m c tries from
+  pub glimpsed : IsGlimpsed m a from f d
+  pub looks : LooksTwice m from.seat f d.seat
+  pub learns : OnlyLearns from d
+
 -- behind all tries in vain it was committed, and answered so
 pub record IsCommittedSo (m : Meaning) (a : Answered) (c : CallerView) (f : Footprint) (d : CallerView) : Type 0 where
   pub from : CallerView
   pub vain : InVain m c MOST_VIEWS from
+  pub remembers : Remembers from d
   pub commits : IsTold m (verdict_of a) from f d
   pub told : IsTold m (verdict_of a) c f d
   pub settles : Settles m (verdict_of a) c.seat f d.seat

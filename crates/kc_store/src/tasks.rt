@@ -13,6 +13,7 @@ ghost use Rattle.kc_hang.specs.kc_machine.Seats.{is_idle};
 ghost use Rattle.kc_hang.specs.kc_machine_traces.Traces.{swap_line};
 ghost use Rattle.kc_hang.specs.kc_table_moves.Views.{KnowsReads, SeatView, opening_at_seat};
 ghost use Rattle.kc_hang.specs.kc_table_laws.Halts.{is_halted, may_halt, was_halted};
+ghost use Rattle.kc_hang.specs.kc_table_laws.Tasks.{KeepsKnown};
 ghost use Rattle.kc_store.specs.Steps.{steps_made};
 ghost use Rattle.kc_store.specs.Tries.{is_told_crossed};
 ghost use Rattle.kc_store.specs.Works.{AllCommitted, AllInstalled, EndsOrIsLeft, MayRun, Runs, is_looking, is_one_put_line, is_told_committing, is_told_swapping, is_told_worn};
@@ -56,6 +57,7 @@ fn end_task(table: &KcTable, seat: &mut KcSeat, budget: Budget, wakes: &mut Wake
     requires calm { was_halted seat.old.seat ≡ false }
     requires halts { may_halt seat.old.seat.work ≡ true }
     ensures runs { (v : SeatView) (t : Task) → Runs v t seat.old → MayRun v t seat.new }
+    ensures keeps { KeepsKnown seat.old seat.new }
     ensures idle { is_idle seat.new.seat.work ≡ true }
     ensures spent { seat.new.seat.told ≡ Some told.Halted → budget.most + steps_made seat.old ≤ steps_made seat.new + (seat.old.seat.made - budget.before) }
     ensures mute { is_looking seat.old.seat.work seat.old.seat.told ≡ true → wakes.new ≡ wakes.old }
@@ -80,6 +82,7 @@ pub(crate) fn end_look(table: &KcTable, seat: &mut KcSeat, budget: Budget)
     requires halts { may_halt seat.old.seat.work ≡ true }
     requires looks { is_looking seat.old.seat.work seat.old.seat.told ≡ true }
     ensures runs { (v : SeatView) (t : Task) → Runs v t seat.old → MayRun v t seat.new }
+    ensures keeps { KeepsKnown seat.old seat.new }
     ensures idle { is_idle seat.new.seat.work ≡ true }
     ensures spent { seat.new.seat.told ≡ Some told.Halted → budget.most + steps_made seat.old ≤ steps_made seat.new + (seat.old.seat.made - budget.before) }
 {
@@ -118,6 +121,7 @@ fn step_on(table: &KcTable, seat: &mut KcSeat, left: &mut u64, wakes: &mut Wakes
     ensures shown { seat.new.began ≡ false }
     ensures halts { is_idle seat.new.seat.work ≡ false → may_halt seat.new.seat.work ≡ true }
     ensures runs { (v : SeatView) (t : Task) → Runs v t seat.old → Runs v t seat.new }
+    ensures keeps { KeepsKnown seat.old seat.new }
     ensures calm { is_idle seat.new.seat.work ≡ true → seat.new.seat.told ≢ Some told.Halted }
     ensures spent { is_idle seat.new.seat.work ≡ false → left.new ≡ 0 }
     ensures made { steps_made seat.old + left.old ≤ steps_made seat.new + left.new }
@@ -135,6 +139,7 @@ fn step_to_the_end(table: &KcTable, seat: &mut KcSeat, wakes: &mut Wakes)
     requires shown { seat.old.began ≡ false }
     requires halted { is_idle seat.old.seat.work ≡ false → is_halted seat.old.seat ≡ true }
     ensures runs { (v : SeatView) (t : Task) → MayRun v t seat.old → MayRun v t seat.new }
+    ensures keeps { KeepsKnown seat.old seat.new }
     ensures idle { is_idle seat.new.seat.work ≡ true }
     ensures made { steps_made seat.old ≤ steps_made seat.new }
     ensures mute { is_looking seat.old.seat.work seat.old.seat.told ≡ true → (is_looking seat.new.seat.work seat.new.seat.told ≡ true) × (wakes.new ≡ wakes.old) }

@@ -5,15 +5,15 @@ ghost use Rattle.kc_hang.specs.kc_machine.Seats.{is_idle};
 ghost use Rattle.kc_hang.specs.kc_machine_traces.Histories.{IsKnown};
 ghost use Rattle.kc_hang.specs.kc_machine_traces.Traces.{first_store};
 ghost use Rattle.kc_hang.specs.kc_table_laws.Confirmed.{SeesConfirmed};
-ghost use Rattle.kc_hang.specs.kc_table_moves.Views.{SeatView, knows, opening_at_seat};
+ghost use Rattle.kc_hang.specs.kc_table_moves.Views.{knows, opening_at_seat};
 ghost use Rattle.kc_model.specs.Footprint.{IsBelow, Reads};
 ghost use Rattle.kc_model.specs.declared.footprint.Seen.{Seen as SeenValue};
 ghost use Rattle.kc_store.specs.Answers.{GainsNothing};
 ghost use Rattle.kc_store.specs.Knows.{OnlyLearns, Remembers};
 ghost use Rattle.kc_store.specs.Steps.{busy_bound};
-ghost use Rattle.kc_store.specs.Viewing.{Glances, Glimpses, InVain, IsGlimpsed, IsViewed, glimpse_as, has_reads, is_settled, is_worn_went, viewed_as};
+ghost use Rattle.kc_store.specs.Viewing.{Glances, Glimpses, GlimpsesAtLast, InVain, IsGlimpsed, IsViewed, LooksTwice, MissesARead, glimpse_as, has_reads, is_settled, is_worn_went, viewed_as};
 ghost use Rattle.kc_store.specs.declared.viewing.Glimpse.TheVariants.{Changed};
-ghost use Rattle.kc_table.specs.Turns.{LooksUntil};
+ghost use Rattle.kc_table.specs.Turns.{LooksAgain};
 ghost use Rattle.kc_xt.specs.Commit.{tried_of};
 ghost use Rattle.kc_xt.specs.Meaning.{limited};
 
@@ -96,6 +96,7 @@ impl Store {
         requires fit { T.is_fit transaction.now }
         requires within { T.end transaction.now ≤ self.now.locations }
         ensures glimpsed { IsGlimpsed (limited (T.most transaction.now) (T.meaning transaction.now)) (glimpse_as result (tried_of trial.new.went trial.new.reply)) caller.old footprint.new caller.new }
+        ensures looks { is_settled (glimpse_as result (tried_of trial.new.went trial.new.reply)) ≡ true → LooksTwice (limited (T.most transaction.now) (T.meaning transaction.now)) caller.old.seat footprint.new caller.new.seat }
         ensures within { is_settled (glimpse_as result (tried_of trial.new.went trial.new.reply)) ≡ true → IsBelow (T.end transaction.now) footprint.new }
         ensures learns { OnlyLearns caller.old caller.new }
         ensures gains { GainsNothing caller.old.seat caller.new.seat }
@@ -122,6 +123,7 @@ impl Store {
         requires fit { T.is_fit transaction.now }
         requires within { T.end transaction.now ≤ self.now.locations }
         ensures glimpsed { IsGlimpsed (limited (T.most transaction.now) (T.meaning transaction.now)) result caller.old footprint.new caller.new }
+        ensures looks { is_settled result ≡ true → LooksTwice (limited (T.most transaction.now) (T.meaning transaction.now)) caller.old.seat footprint.new caller.new.seat }
         ensures within { is_settled result ≡ true → IsBelow (T.end transaction.now) footprint.new }
         ensures learns { OnlyLearns caller.old caller.new }
         ensures gains { GainsNothing caller.old.seat caller.new.seat }
@@ -143,6 +145,7 @@ impl Store {
         requires fit { T.is_fit transaction.now }
         requires within { T.end transaction.now ≤ self.now.locations }
         ensures glimpsed { is_settled result ≡ true → IsGlimpsed (limited (T.most transaction.now) (T.meaning transaction.now)) result caller.old footprint.new caller.new }
+        ensures tries { is_settled result ≡ true → GlimpsesAtLast (limited (T.most transaction.now) (T.meaning transaction.now)) result caller.old footprint.new caller.new }
         ensures vain { is_settled result ≡ false → (result ≡ Changed) × InVain (limited (T.most transaction.now) (T.meaning transaction.now)) caller.old MOST_VIEWS caller.new }
         ensures within { is_settled result ≡ true → IsBelow (T.end transaction.now) footprint.new }
         ensures learns { OnlyLearns caller.old caller.new }
@@ -222,6 +225,7 @@ fn view_by<T: Transact>(
     requires fit { T.is_fit transaction.now }
     requires within { T.end transaction.now ≤ table.now.origin.locations }
     ensures sees { Glimpses (limited (T.most transaction.now) (T.meaning transaction.now)) (glimpse_as result (tried_of trial.new.went trial.new.reply)) seat.old footprint.new seat.new }
+    ensures looks { is_settled (glimpse_as result (tried_of trial.new.went trial.new.reply)) ≡ true → LooksTwice (limited (T.most transaction.now) (T.meaning transaction.now)) seat.old footprint.new seat.new }
     ensures within { is_settled (glimpse_as result (tried_of trial.new.went trial.new.reply)) ≡ true → IsBelow (T.end transaction.now) footprint.new }
     ensures goes { Glances seat.old seat.new }
 {
@@ -264,7 +268,8 @@ fn confirm(table: &KcTable, seat: &mut KcSeat, footprint: &Footprint, budget: Bu
     requires below { IsBelow seat.old.of.origin.locations footprint.now }
     requires known { (r : SeenValue) → Reads footprint.now r → IsKnown (first_store (opening_at_seat seat.old)) (knows seat.old) r }
     ensures confirmed { result ≡ true → (r : SeenValue) → Reads footprint.now r → SeesConfirmed seat.new (length seat.old.past) r }
-    ensures missed { result ≡ false → (last : SeatView) × LooksUntil seat.old footprint.now.reads.items last }
+    ensures again { result ≡ true → LooksAgain seat.old footprint.now.reads.items seat.new }
+    ensures missed { result ≡ false → MissesARead seat.old footprint.now.reads.items seat.new }
     ensures goes { Glances seat.old seat.new }
 {
     if table.look_again(seat, footprint.reads.as_slice()) {

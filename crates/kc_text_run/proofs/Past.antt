@@ -6,7 +6,7 @@ use Rattle.kc_history.specs.Callers.{IsBelowCallers, IsLegalFrom, of_caller}
 use Rattle.kc_model.specs.declared.footprint.Entry.{Entry}
 use Rattle.kc_model.specs.Footprint.{IsBelow}
 use Rattle.kc_run.proofs.Pasts.{legal_from_values, own_parts}
-use Rattle.kc_run.specs.Kcas.{values_at, values_in, values_of}
+use Rattle.kc_run.specs.Kcas.{kcas_past, values_at, values_of}
 use Rattle.kc_store.specs.Backs.{AreAllCallers}
 use Rattle.kc_store.specs.Knows.{IsHistory}
 use Rattle.kc_store.specs.Views.{CallerView, PastView, StoreView}
@@ -26,9 +26,9 @@ both_callers z c d callers a b n m = record {
 }
 
 pub past_of_picks : (t : Texts) (picks front back : List ℕ) (z : StoreView) (p : PastView) (c d c' d' : CallerView) → IsForTwo t z → p.past.origin ≡ z.table.origin → IsHistory z (d ∷ d' ∷ []) p → All (λ (e : Entry). IsBelow z.locations e.footprint) p.history → d.number ≡ 0 → d'.number ≡ 1 → c.own ≡ [] → c'.own ≡ []
-    → AddsPicks t 0 front c d → AddsPicks t 1 back c' d' → front ≡ first_half picks → back ≡ second_half picks → IsPastOfPicks t picks p
+    → AddsPicks t 0 front c d → AddsPicks t 1 back c' d' → front ≡ first_half picks → back ≡ second_half picks → IsPastOfPicks t picks (kcas_past p)
 past_of_picks t picks front back z p c d c' d' two origin history within n n' none none' added added' a b =
-    let values : values_in p ≡ values_of z = ap values_at origin in
+    let values : values_at p.past.origin ≡ values_of z = ap values_at origin in
     let own = own_parts z (d ∷ d' ∷ []) p history in
     let first : of_caller 0 p.history ≡ d.own = subst (λ k. of_caller k p.history ≡ d.own) n (own 0 d (omega arith)) in
     let second : of_caller 1 p.history ≡ d'.own = subst (λ k. of_caller k p.history ≡ d'.own) n' (own 1 d (omega arith)) in

@@ -5,8 +5,8 @@ use Rattle.kc_model.specs.declared.footprint.Entry.{Entry}
 use Rattle.kc_model.specs.declared.reply.Answer.TheVariants as answer
 use Rattle.kc_model.specs.declared.reply.Reply.{Reply}
 use Rattle.kc_model.specs.declared.reply.Reply.TheVariants as reply
-use Rattle.kc_run.specs.Kcas.{OpensAtZero, values_in, values_of}
-use Rattle.kc_store.specs.Views.{CallerView, PastView, StoreView}
+use Rattle.kc_run.specs.Kcas.{KcasPastView, OpensAtZero, values_of}
+use Rattle.kc_store.specs.Views.{CallerView, StoreView}
 use Rattle.kc_text.specs.Meaning.{texts_cells_end, op, text_meaning}
 use Rattle.kc_text.specs.Pool.{IsTextOf}
 use Rattle.kc_text.specs.declared.operation.TextAct.TheVariants as act
@@ -64,15 +64,15 @@ abbrev pub second_half : List ℕ → List ℕ
 second_half picks = drop (length picks / 2) picks
 
 -- what is left of a store on which two callers read these picks: it opened with zeros, and of its one history, which is legal from them, the first caller has the entries of the first half at place 0, the second those of the rest at place 1, and nobody else has one
-pub record IsPastOfPicks (t : Texts) (picks : List ℕ) (p : PastView) : Type 0 where
-  pub zeros : values_in p ≡ replicate (texts_cells_end t) 0
-  pub legal : IsLegalFrom (values_in p) p.history
+pub record IsPastOfPicks (t : Texts) (picks : List ℕ) (p : KcasPastView) : Type 0 where
+  pub zeros : p.opening ≡ replicate (texts_cells_end t) 0
+  pub legal : IsLegalFrom p.opening p.history
   pub first : ArePicks t 0 (first_half picks) (of_caller 0 p.history)
   pub second : ArePicks t 1 (second_half picks) (of_caller 1 p.history)
   pub nobody_else : IsBelowCallers 2 p.history
 
 -- likewise, of so many texts that lie from location 0 on, with a place for each caller
-pub record WereReadByTwo (n : ℕ) (picks : List ℕ) (p : PastView) : Type 0 where
+pub record WereReadByTwo (n : ℕ) (picks : List ℕ) (p : KcasPastView) : Type 0 where
   pub texts : Texts
   pub base : texts.base.0 ≡ 0
   pub places : texts.places ≡ 2

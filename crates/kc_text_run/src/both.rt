@@ -5,7 +5,8 @@ ghost use Rattle.kc_text.specs.Meaning.{IsText, texts_cells_end};
 ghost use Rattle.kc_text_run.specs.Picking.{AddsPicks, AreTextsOf, IsForTwo, IsFresh, IsPastOfPicks, first_half, second_half};
 
 use crate::picking::read_picks;
-use kc_store::{Caller, Past, Store};
+use kc_run::KcasPast;
+use kc_store::{Caller, Store};
 use kc_text::{Text, TextPool, Texts};
 use std::sync::Wait;
 use std::thread;
@@ -59,7 +60,7 @@ pub fn read_both<R: Threads + Wait + Sync>(
     picks: &[u32],
     front_lines: Vec<Text>,
     back_lines: Vec<Text>,
-) -> (Vec<Text>, Vec<Text>, Past)
+) -> (Vec<Text>, Vec<Text>, KcasPast)
     requires store { IsForTwo texts.now store }
     requires first { IsFresh store 0 first }
     requires second { IsFresh store 1 second }
@@ -81,5 +82,5 @@ pub fn read_both<R: Threads + Wait + Sync>(
     );
     room.push_reserved(first);
     room.push_reserved(second);
-    (front_lines, back_lines, store.finish(room))
+    (front_lines, back_lines, KcasPast::of(store.finish(room)))
 }

@@ -7,7 +7,7 @@ ghost use Rattle.kc_text_run.specs.Picking.{AreTextsOf, WereReadByTwo};
 use crate::both::read_both;
 use crate::opening::{blank_lines, open_for_two};
 use kc_model::{Loc, NoMemory};
-use kc_store::Past;
+use kc_run::KcasPast;
 use kc_text::{Text, TextPool, Texts};
 use std::alloc::Global;
 use std::sync::Wait;
@@ -20,7 +20,7 @@ pub struct ReadPicks {
     pub front: Vec<Text>,
     /// By the second.
     pub back: Vec<Text>,
-    pub past: Past,
+    pub past: KcasPast,
 }
 
 /// Opens a store of zeros and a pool of the texts, and reads the picks by two threads. All memory but what the start of a thread

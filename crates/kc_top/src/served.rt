@@ -1,7 +1,7 @@
 //! Which commits a run was served.
 
 use kc_locked::LockPast;
-use kc_run::Past;
+use kc_run::KcasPast;
 
 /// What the store of a run's threads came to, or that of two callers on threads which read picked texts.
 #[derive(Drop)]
@@ -11,5 +11,5 @@ pub enum Served {
     /// The past of the store behind one lock.
     Lock(LockPast),
     /// The past of the lock-free store.
-    Kcas(Past),
+    Kcas(KcasPast),
 }

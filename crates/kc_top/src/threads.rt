@@ -4,7 +4,6 @@ ghost use Rattle.std.specs.Prelude.{◌≡◌, ◌<◌, ◌≤◌, All, IfOk, le
 ghost use Rattle.kc_history.specs.Callers.{IsBelowCallers, IsLegalFrom};
 ghost use Rattle.kc_history.specs.Records.{lists_of};
 ghost use Rattle.kc_model.specs.declared.footprint.TheConstants.{MOST};
-ghost use Rattle.kc_run.specs.Kcas.{values_in};
 ghost use Rattle.kc_run.specs.Run.{CanRunAll};
 ghost use Rattle.kc_script_bundle.specs.Script.{script_of};
 ghost use Rattle.kc_script_bundle.specs.State.{opening_values};
@@ -18,7 +17,7 @@ use crate::served::Served;
 use kc_history::Records;
 use kc_locked::LockPast;
 use kc_model::{MOST_LOCATIONS, NoMemory};
-use kc_run::{Gate, Past, open_kcas, open_locked, run_threads};
+use kc_run::{Gate, KcasPast, open_kcas, open_locked, run_threads};
 use kc_script_bundle::{Bundle, Command, MOST_THREADS};
 use std::alloc::Global;
 use std::sync::Wait;
@@ -91,12 +90,12 @@ fn run_kcas<G: Gate, R: Threads + Wait + Sync>(
     threads: &[Vec<Command>],
     limit: u32,
     gate: &G,
-) -> Result<(Vec<Records>, Past), NoMemory>
+) -> Result<(Vec<Records>, KcasPast), NoMemory>
     requires values { (0 < length values.now) × (length values.now ≤ MOST_LOCATIONS) }
     requires limit { (0 < limit) × (limit ≤ MOST) }
     requires threads { (0 < length threads.now) × (length threads.now ≤ MOST_THREADS) }
     requires commands { All (λ v. CanRunAll (length values.now) v.items) threads.now }
-    ensures opening { IfOk result (λ r. values_in r.1 ≡ values.now) }
+    ensures opening { IfOk result (λ r. r.1.opening ≡ values.now) }
     ensures legal { IfOk result (λ r. IsLegalFrom values.now r.1.history) }
     ensures run { IfOk result (λ r. AreRunBy GivesBehindLooks limit (length values.now) 0 r.1.history (map (λ v. v.items) threads.now) (lists_of r.0.items)) }
     ensures nobody_else { IfOk result (λ r. IsBelowCallers (length threads.now) r.1.history) }

@@ -186,9 +186,9 @@ static void pool(void) {
 }
 
 static kcas_object lay(kcas_object object) {
-    object.base = end;
-    CLAIM(kcas_opening(&object, values + end, 8192 - end) == KCAS_DONE);
-    end += kcas_cells(&object);
+    uint32_t first = end;
+    CLAIM(kcas_lay(&object, values, 8192, &end) == KCAS_DONE);
+    CLAIM(object.base == first && end == first + kcas_cells(&object));
     return object;
 }
 

@@ -6,7 +6,7 @@ use Rattle.kc_await.proofs.Waits.{below_all}
 use Rattle.kc_await.specs.Viewing.{again, none}
 use Rattle.kc_store.proofs.Glancing.{fills_so, glimpsed_from, unsettled}
 use Rattle.kc_store.proofs.Remembering.{learns_on, learns_same, remembers_on}
-use Rattle.kc_store.specs.Viewing.{IsGlimpsed, is_settled}
+use Rattle.kc_store.specs.Viewing.{GlimpsesAtLast, IsGlimpsed, is_settled}
 use Rattle.kc_await.proofs.viewing.view_waiting_into.Goals as goal
 
 pub loop-init : goal.loop-init
@@ -34,7 +34,7 @@ loop-preserved g c =
     let later = put_off_is x.result (sym c.if-not-is_put_off.ensures) in
     record {
       learns = learns_on c.args.caller.now x.new.caller y.new.caller (learns_on c.args.caller.now c.loop.caller x.new.caller c.loop.invariant.learns x.ensures.learns) y.ensures.learns;
-      hung = again c.loop.caller x.new.caller y.new.caller x.new.footprint c.loop.invariant.hung (subst (λ a. IsGlimpsed m a c.loop.caller x.new.footprint x.new.caller) later (x.ensures.glimpsed (ap is_settled later))) x.ensures.learns y.ensures.hangs y.ensures.learns;
+      hung = again c.loop.caller x.new.caller y.new.caller x.new.footprint c.loop.invariant.hung (subst (λ a. GlimpsesAtLast m a c.loop.caller x.new.footprint x.new.caller) later (x.ensures.tries (ap is_settled later))) x.ensures.learns y.ensures.hangs y.ensures.learns;
     }
 
 pub returns-in-Some-viewed_on : goal.returns-in-Some-viewed_on
@@ -47,7 +47,7 @@ returns-in-Some-viewed_on g c =
     record {
       viewed = viewed_at_last m x.result c.in-Some-viewed_on.viewed c.args.caller.now x.new.footprint x.new.caller said (sym c.if-not-is_put_off.ensures)
           (glimpsed_from m x.result c.args.caller.now c.loop.caller x.new.footprint x.new.caller (fills_so x.result c.in-Some-viewed_on.viewed said) c.loop.invariant.learns glimpsed) learns;
-      hangs = record { last = c.loop.caller; hung = c.loop.invariant.hung; ends = ends_at_last m x.result c.in-Some-viewed_on.viewed c.loop.caller x.new.footprint x.new.caller said (sym c.if-not-is_put_off.ensures) glimpsed };
+      hangs = record { last = c.loop.caller; hung = c.loop.invariant.hung; ends = ends_at_last m x.result c.in-Some-viewed_on.viewed c.loop.caller x.new.footprint x.new.caller said (sym c.if-not-is_put_off.ensures) (x.ensures.tries (fills_so x.result c.in-Some-viewed_on.viewed said)) };
       within = λ _. x.ensures.within (fills_so x.result c.in-Some-viewed_on.viewed said);
       remembers = learns.remembers;
     }

@@ -7,6 +7,8 @@ use Rattle.kc_store.specs.Tries.{look_of}
 use Rattle.kc_store.specs.Works.{MayRun, is_looking}
 use Rattle.kc_hang.specs.kc_table_moves.Views.{SeatView}
 use Rattle.kc_hang.specs.kc_table_laws.Halts.{is_halted}
+use Rattle.kc_hang.specs.kc_table_laws.Tasks.{KeepsKnown}
+use Rattle.kc_hang.proofs.kc_table_laws.Keeping.{keeps_then}
 use Rattle.kc_store.proofs.tasks.end_task.Goals as goal
 
 pub step_to_the_end-requires-clause-halted : goal.step_to_the_end-requires-clause-halted
@@ -17,6 +19,11 @@ step_to_the_end-requires-clause-halted c =
 
 pub returns-then-busy-clause-runs : goal.returns-then-busy-clause-runs
 returns-then-busy-clause-runs c = λ v t r. c.step_to_the_end.ensures.runs v t (subst (MayRun v t) (sym c.halt.ensures) (may_run_halted v c.step_on.new.seat t (c.step_on.ensures.runs v t r)))
+
+pub returns-then-busy-clause-keeps : goal.returns-then-busy-clause-keeps
+returns-then-busy-clause-keeps c =
+    let k = c.step_on.ensures.keeps in
+    keeps_then c.args.seat.now c.halt.new.self c.step_to_the_end.new.seat (subst (KeepsKnown c.args.seat.now) (sym c.halt.ensures) (record { of = k.of; number = k.number; past = k.past; grows = k.grows; reads = k.reads; versions = k.versions })) c.step_to_the_end.ensures.keeps
 
 pub returns-then-busy-clause-mute : goal.returns-then-busy-clause-mute
 returns-then-busy-clause-mute c = λ e.

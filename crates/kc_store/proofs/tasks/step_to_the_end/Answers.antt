@@ -1,10 +1,22 @@
-use Rattle.std.proofs.Common.{◌≡◌, ◌∙◌, false, arith}
+use Rattle.std.proofs.Common.{◌≡◌, ◌∙◌, false, refl, arith}
 use Rattle.kc_hang.specs.kc_machine.Seats.{is_idle}
+use Rattle.kc_hang.proofs.kc_table_laws.Keeping.{keeps_same, keeps_then, steps_keep}
 use Rattle.kc_store.proofs.Counting.{step_counts}
 use Rattle.kc_store.proofs.Doing.{may_run_further}
 use Rattle.kc_store.proofs.Mute.{looks_mutely}
 use Rattle.kc_store.proofs.Ending.{busy_is, falls, still_halted}
 use Rattle.kc_store.proofs.tasks.step_to_the_end.Goals as goal
+
+pub steps-init : goal.steps-init
+steps-init c = record {
+  of = refl;
+  shown = c.requires.shown;
+  halted = c.requires.halted;
+  runs = λ v t r. r;
+  keeps = keeps_same c.args.seat.now;
+  made = omega arith;
+  mute = λ e. (e, refl);
+}
 
 pub steps-smaller : goal.steps-smaller
 steps-smaller c =
@@ -21,6 +33,7 @@ steps-preserved c =
       shown = c.step.ensures.stepped.began;
       halted = still_halted c.steps.seat c.step.new.seat (c.steps.invariant.halted busy) c.step.ensures.stepped;
       runs = λ v t r. may_run_further v c.steps.seat c.step.new.seat t (c.steps.invariant.runs v t r) busy c.step.ensures.stepped;
+      keeps = keeps_then c.args.seat.now c.steps.seat c.step.new.seat c.steps.invariant.keeps (steps_keep c.steps.seat c.step.new.seat c.step.ensures.stepped);
       made = omega (arith, n, m);
       mute = λ e. looks_mutely c.steps.seat c.step.new.seat c.steps.wakes c.step.new.wakes c.step.ensures.stepped busy c.step.ensures.wakes c.args.wakes.now (c.steps.invariant.mute e);
     }

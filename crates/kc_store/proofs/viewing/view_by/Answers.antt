@@ -49,8 +49,7 @@ returns-then-not-confirm g c =
     let b : Budget = record { most = c.args.most_steps; before = c.steps-before.result } in
     let from = from_start v c.args.table.now b c.requires.table c.requires.steps c.steps-before.ensures in
     let a = looked_glances m t v f b u c.look_and_run.ensures.looked from in
-    let (last, missed) = c.confirm.ensures.missed c.if-not-confirm.true in
-    record { sees = record { tried = t; seen = u; looked = c.look_and_run.ensures.looked.looked v from; last = last; missed = missed }; within = λ e. absurd (cc); goes = glances_then v u w a c.confirm.ensures.goes }
+    record { sees = record { tried = t; seen = u; looked = c.look_and_run.ensures.looked.looked v from; missed = c.confirm.ensures.missed c.if-not-confirm.true }; looks = λ e. absurd (cc); within = λ e. absurd (cc); goes = glances_then v u w a c.confirm.ensures.goes }
 
 pub returns-then-puts : goal.returns-then-puts
 returns-then-puts g c =
@@ -68,6 +67,7 @@ returns-then-puts g c =
         would_put m c.look_and_run.new.trial.went c.look_and_run.new.trial.reply c.args.footprint.now f c.in_default.not-Busy c.look_and_run.ensures.came c.look_and_run.ensures.puts (c.puts.ensures.some c.if-puts.true),
         stood v u w f a c.confirm.ensures.goes (c.confirm.ensures.confirmed c.if-not-confirm.false),
       );
+      looks = λ _. record { tried = t; seen = u; looked = c.look_and_run.ensures.looked.looked v from; again = c.confirm.ensures.again c.if-not-confirm.false };
       within = λ _. c.look_and_run.ensures.within (not_busy c.look_and_run.new.trial.went c.look_and_run.new.trial.reply c.in_default.not-Busy);
       goes = glances_then v u w a c.confirm.ensures.goes;
     }
@@ -85,6 +85,7 @@ returns g c =
     let a = looked_glances m t v f b u c.look_and_run.ensures.looked from in
     record {
       sees = glimpses m t c.args.footprint.now f v w (not_busy c.look_and_run.new.trial.went c.look_and_run.new.trial.reply c.in_default.not-Busy) c.look_and_run.ensures.came (c.puts.ensures.none c.if-puts.false).1 (stood v u w f a c.confirm.ensures.goes (c.confirm.ensures.confirmed c.if-not-confirm.false));
+      looks = λ _. record { tried = t; seen = u; looked = c.look_and_run.ensures.looked.looked v from; again = c.confirm.ensures.again c.if-not-confirm.false };
       within = λ _. c.look_and_run.ensures.within (not_busy c.look_and_run.new.trial.went c.look_and_run.new.trial.reply c.in_default.not-Busy);
       goes = glances_then v u w a c.confirm.ensures.goes;
     }

@@ -1,7 +1,7 @@
-use Rattle.std.proofs.Common.{rules, ◌≡◌, ◌/◌, length}
+use Rattle.std.proofs.Common.{rules, ◌≡◌, ◌/◌, length, subst, sym}
 use Rattle.kc_text_run.proofs.Past.{past_of_picks}
 use Rattle.kc_text_run.proofs.Picks.{texts_of_both}
-use Rattle.kc_text_run.specs.Picking.{AddsPicks, AreTextsOf}
+use Rattle.kc_text_run.specs.Picking.{AddsPicks, AreTextsOf, IsPastOfPicks}
 use Rattle.kc_text_run.proofs.both.read_both.Goals as goal
 
 pub returns-clause-lines : goal.returns-clause-lines
@@ -20,4 +20,4 @@ returns-clause-past g c =
     let b : AddsPicks c.args.texts.now 1 s.1.now c.args.second r.1.0 = search rules in
     let n : r.0.0.number ≡ 0 = search rules in
     let m : r.1.0.number ≡ 1 = search rules in
-    past_of_picks c.args.texts.now c.args.picks.now s.0.now s.1.now c.args.store c.finish.result c.args.first r.0.0 c.args.second r.1.0 c.requires.store c.finish.ensures.past.origin (rw (c.push_reserved-2.ensures.items, c.push_reserved.ensures.items, c.requires.room.0) at c.finish.ensures.history) c.finish.ensures.within n m c.requires.first.2 c.requires.second.2 a b c.split_at.ensures.front c.split_at.ensures.back
+    subst (IsPastOfPicks c.args.texts.now c.args.picks.now) (sym c.of.ensures) (past_of_picks c.args.texts.now c.args.picks.now s.0.now s.1.now c.args.store c.finish.result c.args.first r.0.0 c.args.second r.1.0 c.requires.store c.finish.ensures.past.origin (rw (c.push_reserved-2.ensures.items, c.push_reserved.ensures.items, c.requires.room.0) at c.finish.ensures.history) c.finish.ensures.within n m c.requires.first.2 c.requires.second.2 a b c.split_at.ensures.front c.split_at.ensures.back)

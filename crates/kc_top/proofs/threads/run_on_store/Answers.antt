@@ -1,7 +1,6 @@
 use Rattle.std.proofs.Common.{refl}
 use Rattle.kc_script_bundle.specs.Script.{script_of}
 use Rattle.kc_top.proofs.Bundles.{commands_fit, threads_fit, values_fit}
-use Rattle.kc_run.specs.Kcas.{values_in}
 use Rattle.kc_top.proofs.Commits.{locked_commits, locked_past, looked_commits, looked_past}
 use Rattle.kc_top.proofs.threads.run_on_store.Goals as goal
 
@@ -37,11 +36,11 @@ pub returns-in_ok-records-in-Kcas-clause-served : goal.returns-in_ok-records-in-
 returns-in_ok-records-in-Kcas-clause-served g c =
     let ran = c.in_ok-records-in-Kcas.ensures in
     let past = c.in_ok-records-in-Kcas.past in
-    (c.in-Kcas.is, looked_past c.args.bundle.now c.args.values.now c.deref-in-Kcas.result.now _ past.history c.requires.values c.deref-in-Kcas.ensures.value ran.legal ran.nobody_else ran.run (values_in past) ran.opening c.requires.some)
+    (c.in-Kcas.is, looked_past c.args.bundle.now c.args.values.now c.deref-in-Kcas.result.now _ past.history c.requires.values c.deref-in-Kcas.ensures.value ran.legal ran.nobody_else ran.run past.opening ran.opening c.requires.some)
 
 pub returns-in_ok-records-in-Kcas-clause-commits : goal.returns-in_ok-records-in-Kcas-clause-commits
 returns-in_ok-records-in-Kcas-clause-commits g c =
     let ran = c.in_ok-records-in-Kcas.ensures in
     let past = c.in_ok-records-in-Kcas.past in
     let script = script_of c.args.bundle.now in
-    looked_commits script _ (values_in past) past.history (looked_past c.args.bundle.now c.args.values.now c.deref-in-Kcas.result.now _ past.history c.requires.values c.deref-in-Kcas.ensures.value ran.legal ran.nobody_else ran.run (values_in past) ran.opening c.requires.some)
+    looked_commits script _ past.opening past.history (looked_past c.args.bundle.now c.args.values.now c.deref-in-Kcas.result.now _ past.history c.requires.values c.deref-in-Kcas.ensures.value ran.legal ran.nobody_else ran.run past.opening ran.opening c.requires.some)

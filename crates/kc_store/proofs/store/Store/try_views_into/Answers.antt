@@ -1,5 +1,5 @@
 use Rattle.kc_xt.specs.Meaning.{limited}
-use Rattle.std.proofs.Common.{◌∙◌, refl, sym}
+use Rattle.std.proofs.Common.{rules, ◌∙◌, refl, sym}
 use Rattle.kc_store.proofs.Glancing.{glimpsed_from}
 use Rattle.kc_store.proofs.Remembering.{learns_on, learns_same}
 use Rattle.kc_store.specs.Viewing.{more, none}
@@ -16,6 +16,11 @@ returns-then-is_settled-clause-glimpsed g c = λ e.
     let m = (limited (g.T.Transact.most c.args.transaction.now) (g.T.Transact.meaning c.args.transaction.now)) in
     let x = c.try_view_into-glimpse in
     glimpsed_from m x.result c.args.caller.now c.loop-tried.caller x.new.footprint x.new.caller e c.loop-tried.invariant.learns x.ensures.glimpsed
+
+pub returns-then-is_settled-clause-tries : goal.returns-then-is_settled-clause-tries
+returns-then-is_settled-clause-tries g c = λ e.
+    let x = c.try_view_into-glimpse in
+    record { tries = c.loop-tried.tried; few = search rules; from = c.loop-tried.caller; vain = c.loop-tried.invariant.vain; glimpsed = x.ensures.glimpsed; looks = x.ensures.looks e; learns = x.ensures.learns }
 
 pub returns-then-is_settled-clause-vain : goal.returns-then-is_settled-clause-vain
 returns-then-is_settled-clause-vain g c = λ e. let t = sym c.is_settled.ensures ∙ c.if-is_settled.true in absurd (cc)

@@ -6,7 +6,7 @@ use Rattle.kc_store.proofs.Glancing.{is_glimpsed}
 use Rattle.kc_store.proofs.Remembering.{only_learns}
 use Rattle.kc_store.proofs.Resting.{of_table, rests_on}
 use Rattle.kc_store.specs.Knows.{OnlyLearns}
-use Rattle.kc_store.specs.Viewing.{IsGlimpsed, glimpse_as}
+use Rattle.kc_store.specs.Viewing.{IsGlimpsed, LooksTwice, glimpse_as}
 use Rattle.kc_store.specs.Views.{CallerView, StoreView, caller_view}
 use Rattle.kc_xt.specs.Commit.{tried_of}
 use Rattle.kc_store.proofs.store.Store.view_in_place.Goals as goal
@@ -40,6 +40,7 @@ returns g c =
     let is = (caller_of c.caller.inside.worn c.deref_mut.result.now c.caller.inside.seat.value c.args.caller.now c.deref_mut.ensures.value c.caller.view_is) in
     record {
       glimpsed = subst (λ x. IsGlimpsed m a x f (caller_view worn w)) is (is_glimpsed m a worn v f w e.sees);
+      looks = λ q. subst (λ (x : CallerView). LooksTwice m x.seat f w) is (e.looks q);
       within = e.within;
       learns = subst (λ x. OnlyLearns x (caller_view worn w)) is (only_learns worn v w e.goes.keeps e.goes.none);
       gains = subst (λ (x : CallerView). GainsNothing x.seat w) is e.goes.none;

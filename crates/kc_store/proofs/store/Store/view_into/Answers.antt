@@ -15,7 +15,7 @@ returns-clause-viewed g c =
     let m = (limited (g.T.Transact.most c.args.transaction.now) (g.T.Transact.meaning c.args.transaction.now)) in
     let x = c.try_views_into-glimpse in
     let y = c.commit_into in
-    committed_from m y.result c.args.caller.now x.new.caller y.new.footprint y.new.caller x.ensures.learns x.ensures.gains (x.ensures.vain (unsettled x.result (sym c.viewed_on.ensures ∙ c.in_default.is))).1 y.ensures.told y.ensures.settles y.ensures.worn y.ensures.notes
+    committed_from m y.result c.args.caller.now x.new.caller y.new.footprint y.new.caller x.ensures.learns x.ensures.gains (x.ensures.vain (unsettled x.result (sym c.viewed_on.ensures ∙ c.in_default.is))).1 y.ensures.told y.ensures.settles y.ensures.worn y.ensures.notes y.ensures.remembers
 
 pub returns-clause-remembers : goal.returns-clause-remembers
 returns-clause-remembers g c = remembers_on c.args.caller.now c.try_views_into-glimpse.new.caller c.commit_into.new.caller c.try_views_into-glimpse.ensures.learns.remembers c.commit_into.ensures.remembers
