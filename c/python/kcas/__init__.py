@@ -31,7 +31,7 @@ DONE, LATER, LOST, BUSY, PUTS, CHANGED, CLOSED, BAD_OPS, BAD_SIZE = 0, 1, 5, 6, 
 OR, FED_A, FED_B, FED_BOTH = 1, 2, 3, 4
 GOING, HUNG, LEAVING, QUIET = 32, 33, 34, 36
 MOST_OPS, MOST_ALTERNATIVES = 16, 4
-_MOST_LOCATIONS = 65536
+MOST_LOCATIONS = 65536
 
 _VERBS, _KINDS, _FUNCTIONS, _RELATIONS = (
     {word: number for number, word in enumerate(words, 1)}
@@ -438,7 +438,7 @@ class Layout:
     """Structures that lie one behind another, and the values that they open with."""
 
     def __init__(self) -> None:
-        self._values = (ctypes.c_uint32 * _MOST_LOCATIONS)()
+        self._values = (ctypes.c_uint32 * MOST_LOCATIONS)()
         self._end = ctypes.c_uint32(0)
 
     @property
@@ -447,7 +447,7 @@ class Layout:
 
     def _add(self, kind: str, capacity: int = 0, buckets: int = 0) -> _Object:
         raw = _Object(_KINDS[kind], 0, _word(capacity), _word(buckets))
-        if _lib.kcas_lay(ctypes.byref(raw), self._values, _MOST_LOCATIONS, ctypes.byref(self._end)) != DONE:
+        if _lib.kcas_lay(ctypes.byref(raw), self._values, MOST_LOCATIONS, ctypes.byref(self._end)) != DONE:
             raise Refused(BAD_SIZE, "a %s of capacity %d and %d buckets can't lie at location %d" % (kind, capacity, buckets, self._end.value))
         return raw
 
