@@ -22,6 +22,6 @@ returns-clause-throughout g c = record {
 
 pub returns-clause-sum : goal.returns-clause-sum
 returns-clause-sum g c =
-    let saw = c.in_ok-sum.ensures.saw in
-    view_exact c.args.bank.now _ _ _ _ _ saw
-    (c.finish_kept.ensures.views _ _ _ _ _ saw.saw (c.what_is_known_stays_known.ensures.same _).remembers saw.saw.ended (search rules))
+    view_exact c.args.bank.now _ _ _ _ _ c.in_ok-sum.ensures.saw
+    (λ seen. c.finish_kept.ensures.views _ _ _ _ _ seen (c.what_is_known_stays_known.ensures.same _).remembers seen.ended (search rules))
+    (λ said. c.finish_kept.ensures.commits _ _ _ _ _ said (c.serving_adds_up.ensures.same _) (search rules))
