@@ -103,15 +103,15 @@ behind_one y ys had x at = record { before = y ∷ at.before; behind = at.behind
 stands_behind : (t : Entry → Bool) (es had : List Entry) (x : Entry) (more : List Entry) → filter t es ≡ had ++ x ∷ more → StandsBehind es had x
 stands_behind t [] [] x more e = absurd (cc)
 stands_behind t [] (z ∷ had) x more e = absurd (cc)
-stands_behind t (y ∷ ys) had x more e = go (t y) had e
+stands_behind t (y ∷ ys) had x more e = go (t y) had e (λ had e. stands_behind t ys had x more e)
   where
-    go : (b : Bool) (had : List Entry) → cond b (y ∷ filter t ys) (filter t ys) ≡ had ++ x ∷ more → StandsBehind (y ∷ ys) had x
-    go true [] e = let same : y ≡ x = cc in record { before = []; behind = ys; is = ap (λ (z : Entry). z ∷ ys) same; has = none }
-    go true (z ∷ had) e =
+    go : (b : Bool) (had : List Entry) → cond b (y ∷ filter t ys) (filter t ys) ≡ had ++ x ∷ more → ((had : List Entry) → filter t ys ≡ had ++ x ∷ more → StandsBehind ys had x) → StandsBehind (y ∷ ys) had x
+    go true [] e again = let same : y ≡ x = cc in record { before = []; behind = ys; is = ap (λ (z : Entry). z ∷ ys) same; has = none }
+    go true (z ∷ had) e again =
         let same : y ≡ z = cc in
-        let at = stands_behind t ys had x more (cc) in
+        let at = again had (cc) in
         record { before = y ∷ at.before; behind = at.behind; is = ap (λ (zs : List Entry). y ∷ zs) at.is; has = subst (λ (u : Entry). IsWithin (z ∷ had) (u ∷ at.before)) (sym same) (here at.has) }
-    go false had e = behind_one y ys had x (stands_behind t ys had x more e)
+    go false had e again = behind_one y ys had x (again had e)
 
 pub commit_where : (holds : (ℕ → ℕ) → Type 0) (s e : Store) (es : List Entry) (m : Meaning) (a : Reply) (c d : CallerView) (k : ℕ) (added : List Entry) → HoldsThroughout holds s es → IsLegal s es e → CommitsReply m a c d → entries_of k es ≡ d.own ++ added → SaysWhere holds s es c.own m a
 commit_where holds s e es m a c d k added throughout legal said own =
