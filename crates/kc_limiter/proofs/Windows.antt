@@ -65,7 +65,7 @@ module _ (l : Limiter) (s e : Store) (es : List Entry) (counts : HoldsThroughout
 
     -- what was given before, in this window, and is given by these entries
     adds_up : (before rest : List Entry) (t : Store) → es ≡ before ++ rest → IsLegal s before t → IsLegal t rest e → (window < values t l.window.0 → given_in l window client t rest ≡ 0) × (given_in l window client t rest + cond (values t l.window.0 == window) (given_now l (values t) client) 0 ≤ PERMITS)
-    adds_up before [] t is front rest = (λ over. refl, at_most (values t l.window.0 == window) (given_now l (values t) client) (top before [] t is front))
+    adds_up before [] t is front rest = let most = at_most (values t l.window.0 == window) (given_now l (values t) client) (top before [] t is front) in (λ over. refl, omega (arith, most))
     adds_up before (x ∷ xs) t is front rest =
         let u : Store = after x.footprint t in
         let step = goes before xs x t is front in
