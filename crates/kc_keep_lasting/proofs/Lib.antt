@@ -1,4 +1,4 @@
 pub mod Raised
 pub mod Throughout
 pub mod Stepping
-pub mod Callers
+pub mod Owning

@@ -1,7 +1,7 @@
 use Rattle.std.proofs.Common.{◌⊎◌}
 use Rattle.kc_keep.proofs.Together.{of_callers}
 use Rattle.kc_keep.specs.Only.{IsOfThese}
-use Rattle.kc_keep_lasting.proofs.Callers.{own_keep}
+use Rattle.kc_keep_lasting.proofs.Owning.{own_keep}
 use Rattle.kc_keep_lasting.specs.Eras.{SparesFirst}
 use Rattle.kc_model.specs.declared.footprint.Entry.{Entry}
 use Rattle.kc_store.specs.Knows.{entries_of}

@@ -1,4 +1,4 @@
-use Rattle.kc_keep_lasting.proofs.Callers.{has_committed, has_in_vain, has_none, has_renewed, has_told}
+use Rattle.kc_keep_lasting.proofs.Owning.{has_committed, has_in_vain, has_none, has_renewed, has_told}
 use Rattle.kc_keep_lasting.proofs.callers.own_entries_are_of_these.Goals as goal
 
 pub returns-clause-first : goal.returns-clause-first
