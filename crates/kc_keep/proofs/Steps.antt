@@ -13,7 +13,7 @@ use Rattle.kc_xt.specs.Commit.{run_on}
 use Rattle.kc_xt.specs.Meaning.{Meaning, limited, values}
 
 module _ (is_one : Meaning → Type 0) (holds : (ℕ → ℕ) → Type 0) (steps : (ℕ → ℕ) → (ℕ → ℕ) → Type 0) (kept : (m : Meaning) → is_one m → IsKeptBy holds m) (moves : (m : Meaning) → is_one m → IsStepOf holds steps m) (stays : (m : ℕ → ℕ) → holds m → steps m m) where
-  one_steps : (s : Store) (f : Footprint) → IsOfThese is_one f → Finds f s → holds (values s) → steps (values s) (values (after f s))
+  pub one_steps : (s : Store) (f : Footprint) → IsOfThese is_one f → Finds f s → holds (values s) → steps (values s) (values (after f s))
   one_steps s f (inl nothing) finds h = subst (steps (values s)) (sym (nothing_put s f nothing)) (stays (values s) h)
   one_steps s f (inr o) finds h =
       let m : Meaning = limited o.most o.meaning in

@@ -1,8 +1,8 @@
 //! What is left when all callers came back, and what holds of it.
 
 ghost use Rattle.std.specs.Prelude.{◌≡◌, All, Contains, map};
-ghost use Rattle.kc_keep.specs.Keeping.{HoldsThroughout, SawReply, SaysWhere};
-ghost use Rattle.kc_keep.specs.Only.{HasOnly, ServeFrom};
+ghost use Rattle.kc_keep.specs.Keeping.{CommitsReply, HoldsThroughout, SawReply, SaysWhere};
+ghost use Rattle.kc_keep.specs.Only.{HasOnly, ServeFrom, Serves};
 ghost use Rattle.kc_keep.specs.Steps.{IsTransitive, LastsThroughout, StepsThroughout};
 ghost use Rattle.kc_lay.specs.Placed.{HoldsAtOpening, OpensAsLaid};
 ghost use Rattle.kc_model.specs.Legal.{IsLegal};
@@ -21,7 +21,8 @@ use kc_lay::Layout;
 use kc_store::{Caller, Past, Store};
 
 /// All callers come back, whose own entries are all of the invariant's meanings, and the one history shows: the invariant holds
-/// behind every front of it, and of what stands at its end. All else is as `Store::finish` says.
+/// behind every front of it, and of what stands at its end. What a view replied, or a commit, it replies at a place where it holds,
+/// no older than all that its caller knew, or had committed. All else is as `Store::finish` says.
 pub fn finish_kept<I: Invariant>(invariant: &I, store: Store, callers: Vec<Caller>) -> Past
     requires all { AreAllCallers store callers.items }
     requires only { All (HasOnly (I.is_one invariant.now)) callers.items }
@@ -33,6 +34,7 @@ pub fn finish_kept<I: Invariant>(invariant: &I, store: Store, callers: Vec<Calle
     ensures throughout { HoldsThroughout (I.holds invariant.now) (store_opening store) result.history }
     ensures holds { I.holds invariant.now (values (last result)) }
     ensures views { (m : Meaning) (a : Reply) (c d e : CallerView) → SawReply m a c d → Remembers d e → ShowsItsSeat e → Contains callers.items e → SaysWhere (I.holds invariant.now) (store_opening store) result.history c.known m a }
+    ensures commits { (m : Meaning) (a : Reply) (c d e : CallerView) → CommitsReply m a c d → Serves (I.is_one invariant.now) d e → Contains callers.items e → SaysWhere (I.holds invariant.now) (store_opening store) result.history c.own m a }
 {
     holds_throughout(invariant);
     views_see_it_hold(invariant);
@@ -51,6 +53,7 @@ pub fn finish_stepped<S: Stepping>(stepping: &S, store: Store, callers: Vec<Call
     ensures throughout { HoldsThroughout (S.holds stepping.now) (store_opening store) result.history }
     ensures holds { S.holds stepping.now (values (last result)) }
     ensures views { (m : Meaning) (a : Reply) (c d e : CallerView) → SawReply m a c d → Remembers d e → ShowsItsSeat e → Contains callers.items e → SaysWhere (S.holds stepping.now) (store_opening store) result.history c.known m a }
+    ensures commits { (m : Meaning) (a : Reply) (c d e : CallerView) → CommitsReply m a c d → Serves (S.is_one stepping.now) d e → Contains callers.items e → SaysWhere (S.holds stepping.now) (store_opening store) result.history c.own m a }
     ensures steps { StepsThroughout (S.steps stepping.now) (store_opening store) result.history }
     ensures lasts { IsTransitive (S.steps stepping.now) → LastsThroughout (S.steps stepping.now) (store_opening store) result.history }
 {
@@ -76,6 +79,7 @@ pub fn finish_served<S: Stepping>(
     ensures throughout { HoldsThroughout (S.holds stepping.now) (store_opening store) result.history }
     ensures holds { S.holds stepping.now (values (last result)) }
     ensures views { (m : Meaning) (a : Reply) (c d e : CallerView) → SawReply m a c d → Remembers d e → ShowsItsSeat e → Contains callers.items e → SaysWhere (S.holds stepping.now) (store_opening store) result.history c.known m a }
+    ensures commits { (m : Meaning) (a : Reply) (c d e : CallerView) → CommitsReply m a c d → Serves (S.is_one stepping.now) d e → Contains callers.items e → SaysWhere (S.holds stepping.now) (store_opening store) result.history c.own m a }
     ensures steps { StepsThroughout (S.steps stepping.now) (store_opening store) result.history }
     ensures lasts { IsTransitive (S.steps stepping.now) → LastsThroughout (S.steps stepping.now) (store_opening store) result.history }
 {

@@ -3,7 +3,7 @@
 ghost use Rattle.std.specs.Prelude.{◌≡◌, ◌≤◌, ℕ, All, IfSome, List};
 ghost use Rattle.kc_await.specs.Adds.{IsToldAtLast, IsToldInTime, WaitsSo};
 ghost use Rattle.kc_await.specs.Viewing.{IsViewedAtLast};
-ghost use Rattle.kc_keep.specs.Keeping.{SawReply, reply_seen};
+ghost use Rattle.kc_keep.specs.Keeping.{CommitsReply, ViewsReply, reply_seen, reply_told};
 ghost use Rattle.kc_keep.specs.Only.{CommitsOnly, HasOnly, ServeFrom, Serves, reply_in};
 ghost use Rattle.kc_model.specs.declared.footprint.Footprint.{Footprint};
 ghost use Rattle.kc_store.specs.Backs.{AreAllCallers};
@@ -20,7 +20,7 @@ ghost use Rattle.kc_xt.specs.Meaning.{Meaning, limited};
 use crate::invariant::Invariant;
 use kc_await::commit_waiting;
 use kc_model::{Footprint, Reply};
-use kc_store::{Caller, Outcome, Store, Viewed, what_is_known_stays_known};
+use kc_store::{Answered, Caller, Outcome, Store, Viewed, what_is_known_stays_known};
 use kc_xt::Transact;
 use std::sync::Wait;
 
@@ -81,12 +81,14 @@ pub fn commit_kept<R: Wait, I: Invariant, T: Transact>(
     requires one { I.is_one invariant.now (T.meaning act.now) }
     ensures serves { Serves (I.is_one invariant.now) caller.old caller.new }
     ensures so { (o : Outcome) × WaitsSo (limited (T.most act.now) (T.meaning act.now)) (T.end act.now) o caller.old caller.new × (result ≡ reply_in o) }
+    ensures says { IfSome result (λ a. CommitsReply (limited (T.most act.now) (T.meaning act.now)) a caller.old caller.new) }
 {
     waited_of(invariant);
     commit_replied(rt, store, caller, act)
 }
 
-/// Views one of the invariant's meanings: its reply, or None exactly where the view ended without one, or as a commit.
+/// Views one of the invariant's meanings: its reply, as the view saw it or, where what it read changed too often, as a commit gave it,
+/// which has an entry. None where there is no reply: it would wait, would put something, or is too large or worn.
 pub fn view_kept<R: Wait, I: Invariant, T: Transact>(
     rt: &R,
     store: &Store,
@@ -100,7 +102,7 @@ pub fn view_kept<R: Wait, I: Invariant, T: Transact>(
     requires one { I.is_one invariant.now (T.meaning act.now) }
     ensures serves { Serves (I.is_one invariant.now) caller.old caller.new }
     ensures so { (v : Viewed) × (f : Footprint) × IsViewed (limited (T.most act.now) (T.meaning act.now)) v caller.old f caller.new × (result ≡ reply_seen v) }
-    ensures saw { IfSome result (λ a. SawReply (limited (T.most act.now) (T.meaning act.now)) a caller.old caller.new) }
+    ensures says { IfSome result (λ a. ViewsReply (limited (T.most act.now) (T.meaning act.now)) a caller.old caller.new) }
 {
     viewed_of(invariant);
     caller.shows();
@@ -110,12 +112,22 @@ pub fn view_kept<R: Wait, I: Invariant, T: Transact>(
     reply_viewed(viewed)
 }
 
-// The reply of a view that has no entry.
+// The reply of a view that has no entry, or of the commit as which it ended.
 fn reply_viewed(answer: Viewed) -> Option<Reply>
     ensures { result ≡ reply_seen answer }
 {
     match answer {
         Viewed::Done(reply) => Some(reply),
+        Viewed::Committed(answered) => reply_answered(answered),
+        _ => None,
+    }
+}
+
+fn reply_answered(answer: Answered) -> Option<Reply>
+    ensures { result ≡ reply_told answer }
+{
+    match answer {
+        Answered::Done(reply) => Some(reply),
         _ => None,
     }
 }
@@ -133,6 +145,7 @@ pub fn commit_replied<R: Wait, T: Transact>(
     ensures of { caller.new.of ≡ store.now }
     ensures remembers { Remembers caller.old caller.new }
     ensures so { (o : Outcome) × WaitsSo (limited (T.most act.now) (T.meaning act.now)) (T.end act.now) o caller.old caller.new × (result ≡ reply_in o) }
+    ensures says { IfSome result (λ a. CommitsReply (limited (T.most act.now) (T.meaning act.now)) a caller.old caller.new) }
 {
     let outcome = commit_waiting(rt, store, caller, act);
     reply_of(outcome)

@@ -10,7 +10,7 @@ use Rattle.kc_compose.specs.Meaning.{both_meaning, fed_meaning, number_said, say
 use Rattle.kc_compose.specs.Sort.{is_of}
 use Rattle.kc_compose.specs.declared.sort.Sort.TheVariants.{Full, Is, Refusal}
 use Rattle.kc_limiter.specs.declared.asking.InWindow.{InWindow}
-use Rattle.kc_limiter.specs.declared.limiter.TheConstants.{PERMITS}
+use Rattle.kc_limiter.specs.declared.limiter.TheConstants.{LAST_WINDOW, PERMITS}
 use Rattle.kc_loc.proofs.Values.{loc_has_value}
 use Rattle.kc_loc.specs.Meaning.{loc_meaning, loc_value}
 use Rattle.kc_loc.specs.declared.operation.LocOp.{LocOp}
@@ -55,6 +55,22 @@ sets l k n m ks a h e = (tt, (loc_has_value (loc.Set l k) n m ks (fits _ a e)).1
 
 pub raises : (l : Loc) → Makes (λ m a w. w ≡ put m l.0 (wrapped (m l.0 + 1))) (loc_meaning (loc.Incr l))
 raises l n m ks a h e = (tt, (loc_has_value (loc.Incr l) n m ks (fits _ a e)).1)
+
+asked : (n v : ℕ) (b : Reply) (t : Bool) → b ≡ reply.Value v → is_of (Is n) b ≡ t → (v == n) ≡ t
+asked n v b t e is = ap (is_of (Is n)) (sym e) ∙ is
+
+-- one more, or none at the last number
+abbrev pub Turns : Loc → (ℕ → ℕ) → (ℕ → ℕ) → Type 0
+Turns l m w = (w ≡ m) ⊎ ((m l.0 ≢ LAST_WINDOW) × (w ≡ put m l.0 (wrapped (m l.0 + 1))))
+
+abbrev pub turning : Loc → Meaning
+turning l = when_meaning (Is LAST_WINDOW) (loc_meaning (loc.Get l)) (say_meaning (reply.Bool false)) (loc_meaning (loc.Incr l))
+
+pub turns_by_one : (l : Loc) → Makes (λ m a w. Turns l m w) (turning l)
+turns_by_one l = leads_when Any (Is LAST_WINDOW) (λ m a w. (a ≡ reply.Value (m l.0)) × (w ≡ m)) (λ m a w. (a ≡ reply.Bool false) × (w ≡ m)) (λ m a w. w ≡ put m l.0 (wrapped (m l.0 + 1))) (λ m a w. Turns l m w) (loc_meaning (loc.Get l)) (say_meaning (reply.Bool false)) (loc_meaning (loc.Incr l))
+    (gets l) (leads_say Any (reply.Bool false)) (raises l)
+    (λ m w x b a one e two. inl (two.1 ∙ one.1))
+    (λ m w x b a one e two. inr (eqb-false _ _ (asked LAST_WINDOW (m l.0) b false one.0 e), subst (λ u. x ≡ put u l.0 (wrapped (u l.0 + 1))) one.1 two))
 
 -- an operation on a queue leaves all else, and of what its items were makes what it says
 abbrev pub OnQueue : Queue → QueueAct → (ℕ → ℕ) → Reply → (ℕ → ℕ) → Type 0
@@ -101,9 +117,6 @@ module _ (i : InWindow) where
   -- whatever was counted, the client comes into the line
   enters_then : (o : LocOp) (f : (ℕ → ℕ) → ℕ → ℕ) → Makes (λ m a w. w ≡ f m) (loc_meaning o) → Makes (λ m a w. Enters i.granted i.client (f m) w) (both_meaning (loc_meaning o) (entering i.granted i.client))
   enters_then o f counts = leads_then Any (λ m a w. w ≡ f m) (λ m a w. Enters i.granted i.client (f m) w) (λ b m a w. Enters i.granted i.client m w) (loc_meaning o) (λ b. entering i.granted i.client) counts (λ b. enters i.granted i.client) (λ m w x b a one two. subst (λ u. Enters i.granted i.client u x) one two)
-
-  asked : (n v : ℕ) (b : Reply) (t : Bool) → b ≡ reply.Value v → is_of (Is n) b ≡ t → (v == n) ≡ t
-  asked n v b t e is = ap (is_of (Is n)) (sym e) ∙ is
 
   abbrev counting : ℕ → ℕ
   counting v = wrapped (v + 1)

@@ -5,11 +5,11 @@ use Rattle.std.proofs.lemmas.Bool.Decides.{nat_tests}
 use borrow.Author.Tests.{eqb-false}
 use Rattle.kc_compose.proofs.Leads.{leads_also, leads_more}
 use Rattle.kc_compose.proofs.Stood.{OnlyWithin}
-use Rattle.kc_limiter.proofs.Acts.{Any, Enters, IsGiven, Makes, OnQueue, asking_meaning, first, gives_permit, gives_waiting, lines, more, raises, refused}
+use Rattle.kc_limiter.proofs.Acts.{Any, Enters, IsGiven, Makes, OnQueue, Turns, asking_meaning, first, gives_permit, gives_waiting, lines, more, refused, turning, turns_by_one}
 use Rattle.kc_limiter.specs.Asking.{client_of}
 use Rattle.kc_limiter.specs.Limits.{GivesSo, CountsGo, HasCounts, IsLimiterLaid, LineGoes, comes, permits_cell, given_now, leaves, seen_cell, stays}
 use Rattle.kc_limiter.specs.declared.limiter.Limiter.{Limiter}
-use Rattle.kc_limiter.specs.declared.limiter.TheConstants.{CLIENTS, PERMITS}
+use Rattle.kc_limiter.specs.declared.limiter.TheConstants.{CLIENTS, LAST_WINDOW, PERMITS}
 use Rattle.kc_compose.specs.Meaning.{wait_meaning}
 use Rattle.kc_compose.specs.declared.sort.Sort.TheVariants.{Refusal}
 use Rattle.kc_loc.specs.Meaning.{loc_meaning}
@@ -39,12 +39,12 @@ given_none : (seen window count : ℕ) → seen ≢ window → given_of seen win
 given_none seen window count other = let e : (seen == window) ≡ false = grind (arith, nat_tests, other) in rw e refl
 
 module _ (l : Limiter) where
-  -- what leaves counts and line as they are
-  same_goes : (m w : ℕ → ℕ) → ((d : ℕ) → d < CLIENTS → (w (seen_cell l d) ≡ m (seen_cell l d)) × (w (permits_cell l d) ≡ m (permits_cell l d))) → ((xs ys : List ℕ) → QueueStandsFor l.granted m xs → QueueStandsFor l.granted w ys → LineGoes l m w xs ys) → ((xs : List ℕ) → QueueStandsFor l.granted m xs → (ys : List ℕ) × QueueStandsFor l.granted w ys) → HasCounts l m → HasCounts l w × CountsGo l m w
-  same_goes m w cells moves lined has = ((lined has.0.0 has.0.1, λ d lt. let at = (cells d lt).1 in let top = has.1 d lt in omega (arith, at, top)), record { given = λ same d lt. let at = cells d lt in inl (rw (at.0, at.1, same) refl); line = moves })
+  -- what leaves counts and line as they are, and the window as it is or the next one
+  same_goes : (m w : ℕ → ℕ) → (w l.window.0 ≡ m l.window.0) ⊎ (w l.window.0 ≡ suc (m l.window.0)) → w l.window.0 ≤ LAST_WINDOW → ((d : ℕ) → d < CLIENTS → (w (seen_cell l d) ≡ m (seen_cell l d)) × (w (permits_cell l d) ≡ m (permits_cell l d))) → ((xs ys : List ℕ) → QueueStandsFor l.granted m xs → QueueStandsFor l.granted w ys → LineGoes l m w xs ys) → ((xs : List ℕ) → QueueStandsFor l.granted m xs → (ys : List ℕ) × QueueStandsFor l.granted w ys) → HasCounts l m → HasCounts l w × CountsGo l m w
+  same_goes m w turned window cells moves lined has = (record { line = lined has.line.0 has.line.1; counts = λ d lt. let at = (cells d lt).1 in let top = has.counts d lt in omega (arith, at, top); window = window }, record { turned = turned; given = λ same d lt. let at = cells d lt in inl (rw (at.0, at.1, same) refl); line = moves })
 
   pub nothing_goes : (m : ℕ → ℕ) → HasCounts l m → HasCounts l m × CountsGo l m m
-  nothing_goes m has = same_goes m m (λ d lt. (refl, refl)) (λ xs ys before then. subst (LineGoes l m m xs) (queue_one l.granted m xs ys before then) (stays xs)) (λ xs stood. (xs, stood)) has
+  nothing_goes m has = same_goes m m (inl refl) has.window (λ d lt. (refl, refl)) (λ xs ys before then. subst (LineGoes l m m xs) (queue_one l.granted m xs ys before then) (stays xs)) (λ xs stood. (xs, stood)) has
 
 module _ (l : Limiter) (laid : IsLimiterLaid l) where
   abbrev now : ℕ
@@ -67,7 +67,7 @@ module _ (l : Limiter) (laid : IsLimiterLaid l) where
     line : (xs : List ℕ) → QueueStandsFor l.granted m xs → QueueStandsFor l.granted w (xs ++ client ∷ [])
 
   one_goes : (client : ℕ) (m w : ℕ → ℕ) → client < CLIENTS → HasCounts l m → GivesOne client m w → HasCounts l w × CountsGo l m w
-  one_goes client m w in_range has one = ((lined has.0, counted), record { given = λ same d lt. each d lt (d == client) refl; line = moves })
+  one_goes client m w in_range has one = (record { line = lined has.line; counts = counted; window = let top = has.window in let same = one.window in omega (arith, top, same) }, record { turned = inl one.window; given = λ same d lt. each d lt (d == client) refl; line = moves })
     where
       lined : (xs : List ℕ) × QueueStandsFor l.granted m xs → (xs : List ℕ) × QueueStandsFor l.granted w xs
       lined (xs, stood) = (xs ++ client ∷ [], one.line xs stood)
@@ -78,7 +78,7 @@ module _ (l : Limiter) (laid : IsLimiterLaid l) where
           let at : w (permits_cell l d) ≡ suc (given_now l m client) = ap (λ x. w (permits_cell l x)) same ∙ one.count in
           let top = one.most in
           omega (arith, at, top)
-      count_of d lt false e = let at = (one.others d lt (eqb-false _ _ e)).1 in let top = has.1 d lt in omega (arith, at, top)
+      count_of d lt false e = let at = (one.others d lt (eqb-false _ _ e)).1 in let top = has.counts d lt in omega (arith, at, top)
 
       counted : (d : ℕ) → d < CLIENTS → w (permits_cell l d) ≤ PERMITS
       counted d lt = count_of d lt (d == client) refl
@@ -102,7 +102,7 @@ module _ (l : Limiter) (laid : IsLimiterLaid l) where
       window = at now (omega (arith, laid.window, laid.seen, laid.counts)) ∙ put_off m cell v now (λ q. omega (arith, q, laid.window, laid.seen));
       seen = at (seen_cell l client) (omega (arith, laid.seen, laid.counts, in_range)) ∙ put_off m cell v (seen_cell l client) (λ q. omega (arith, q, laid.seen, in_range)) ∙ there;
       count = at cell inside ∙ put_at m cell v cell refl ∙ whole ∙ ap suc (sym was);
-      most = let top = has.1 client in_range in omega (arith, top, fewer, was);
+      most = let top = has.counts client in_range in omega (arith, top, fewer, was);
       others = λ d lt ne. (at (seen_cell l d) (omega (arith, laid.seen, laid.counts, lt)) ∙ put_off m cell v (seen_cell l d) (λ q. omega (arith, q, laid.seen, lt)), at (permits_cell l d) (omega (arith, laid.counts, lt)) ∙ put_off m cell v (permits_cell l d) (λ q. omega (arith, q, ne)));
       line = λ xs stood. lined xs (line_stays m cell v xs inside stood);
     })
@@ -123,7 +123,7 @@ module _ (l : Limiter) (laid : IsLimiterLaid l) where
         was = given_there (m (seen_cell l client)) (m now) (m (permits_cell l client)) there
 
         whole : wrapped (m (permits_cell l client) + 1) ≡ suc (m (permits_cell l client))
-        whole = let top = has.1 client in_range in omega (arith, top)
+        whole = let top = has.counts client in_range in omega (arith, top)
     gives_one m w has (first other (out, lined)) = one_goes client m w in_range has (record {
       window = at now (omega (arith, laid.window, laid.seen, laid.counts)) ∙ off now (λ q. omega (arith, q, laid.window)) (λ q. omega (arith, q, laid.window, laid.seen));
       seen = at (seen_cell l client) (omega (arith, laid.seen, laid.counts, in_range)) ∙ put_off (put m (seen_cell l client) (m now)) (permits_cell l client) 1 (seen_cell l client) (λ q. omega (arith, q, laid.seen, in_range)) ∙ put_at m (seen_cell l client) (m now) (seen_cell l client) refl;
@@ -157,11 +157,14 @@ module _ (l : Limiter) (laid : IsLimiterLaid l) where
   -- ---- the next out of the line
 
   taken_goes : (m w : ℕ → ℕ) (a : Reply) → HasCounts l m → OnQueue l.granted queue.DeqWait m a w → HasCounts l w × CountsGo l m w
-  taken_goes m w a has (out, then) = same_goes l m w
+  taken_goes m w a has (out, then) = same_goes l m w (inl stayed) (let top = has.window in omega (arith, top, stayed))
       (λ d lt. (stays_before m w out (seen_cell l d) (omega (arith, laid.seen, laid.counts, lt)), stays_before m w out (permits_cell l d) (omega (arith, laid.counts, lt))))
       (λ xs ys before behind. let v = then xs before in moved xs ys v.0 (queue_one l.granted w _ ys v.1 behind))
       (λ xs stood. (_, (then xs stood).1)) has
     where
+      stayed : w now ≡ m now
+      stayed = stays_before m w out now (omega (arith, laid.window, laid.seen, laid.counts))
+
       moved : (xs ys : List ℕ) → (front_taken retried xs).outcome ≡ replied a → (front_taken retried xs).content ≡ ys → LineGoes l m w xs ys
       moved [] ys e same = absurd (cc)
       moved (x ∷ xs) ys e same = subst (LineGoes l m w (x ∷ xs)) same (leaves x xs)
@@ -171,19 +174,26 @@ module _ (l : Limiter) (laid : IsLimiterLaid l) where
 
   -- ---- the next window
 
-  turned_goes : (m w : ℕ → ℕ) (v : ℕ) → HasCounts l m → w ≡ put m now v → HasCounts l w × CountsGo l m w
-  turned_goes m w v has e = subst (λ u. HasCounts l u × CountsGo l m u) (sym e) (same_goes l m (put m now v)
+  turned_goes : (m w : ℕ → ℕ) → HasCounts l m → Turns l.window m w → HasCounts l w × CountsGo l m w
+  turned_goes m w has (inl e) = subst (λ u. HasCounts l u × CountsGo l m u) (sym e) (nothing_goes l m has)
+  turned_goes m w has (inr (other, e)) = subst (λ u. HasCounts l u × CountsGo l m u) (sym e) (same_goes l m (put m now v) (inr there) (let top = has.window in omega (arith, there, top, other))
       (λ d lt. (put_off m now v (seen_cell l d) (λ q. omega (arith, q, laid.window)), put_off m now v (permits_cell l d) (λ q. omega (arith, q, laid.window, laid.seen))))
       (λ xs ys before then. subst (LineGoes l m (put m now v) xs) (queue_one l.granted (put m now v) xs ys (stay xs before) then) (stays xs))
       (λ xs stood. (xs, stay xs stood)) has)
     where
-      stay : (xs : List ℕ) → QueueStandsFor l.granted m xs → QueueStandsFor l.granted (put m now v) xs
-      stay xs stood = line_stays m now v xs (omega (arith, laid.window, laid.seen, laid.counts)) stood
+      v : ℕ
+      v = wrapped (m now + 1)
 
-  pub turns : GivesSo l (loc_meaning (loc.Incr l.window))
-  turns n m ks a has e = turned_goes m _ _ has (raises l.window n m ks a tt e).1
+      there : put m now (wrapped (m now + 1)) now ≡ suc (m now)
+      there = put_at m now (wrapped (m now + 1)) now refl ∙ (let top = has.window in omega (arith, top, other))
+
+      stay : (xs : List ℕ) → QueueStandsFor l.granted m xs → QueueStandsFor l.granted (put m now (wrapped (m now + 1))) xs
+      stay xs stood = line_stays m now (wrapped (m now + 1)) xs (omega (arith, laid.window, laid.seen, laid.counts)) stood
+
+  pub turns : GivesSo l (turning l.window)
+  turns n m ks a has e = turned_goes m _ has (turns_by_one l.window n m ks a tt e).1
 
 -- ---- the opening
 
-pub opens : (l : Limiter) (m : ℕ → ℕ) → QueueStandsFor l.granted m [] → ((i : ℕ) → i < CLIENTS → m (l.counts.base.0 + i) ≡ 0) → HasCounts l m
-opens l m line counts = (([], line), λ d lt. let none = counts d lt in omega (arith, none))
+pub opens : (l : Limiter) (m : ℕ → ℕ) → QueueStandsFor l.granted m [] → ((i : ℕ) → i < CLIENTS → m (l.counts.base.0 + i) ≡ 0) → m l.window.0 ≡ 0 → HasCounts l m
+opens l m line counts window = record { line = ([], line); counts = λ d lt. let none = counts d lt in omega (arith, none); window = omega (arith, window) }

@@ -9,7 +9,7 @@ use Rattle.kc_compose.specs.declared.wait_on.WaitOn.{WaitOn}
 use Rattle.kc_compose.specs.declared.when.When.{When}
 use Rattle.kc_limiter.specs.declared.asking.InWindow.{InWindow}
 use Rattle.kc_limiter.specs.declared.limiter.Limiter.{Limiter}
-use Rattle.kc_limiter.specs.declared.limiter.TheConstants.{PERMITS}
+use Rattle.kc_limiter.specs.declared.limiter.TheConstants.{LAST_WINDOW, PERMITS}
 use Rattle.kc_loc.specs.declared.operation.LocOp.{LocOp}
 use Rattle.kc_loc.specs.declared.operation.LocOp.TheVariants as loc
 use Rattle.kc_model.specs.declared.footprint.Loc.{Loc}
@@ -45,3 +45,6 @@ asks_permit l client = record { first = loc.Get l.window; behind = client_of l c
 
 abbrev pub asks_until_given : Limiter → ℕ → WaitOn (Fed LocOp InWindow)
 asks_until_given l client = record { of = asks_permit l client; at = sort.Refusal }
+
+abbrev pub turns_window : Limiter → When LocOp Say LocOp
+turns_window l = record { ask = loc.Get l.window; is = sort.Is LAST_WINDOW; then = record { reply = reply.Bool false }; otherwise = loc.Incr l.window }

@@ -1,11 +1,11 @@
 //! What threads do with the limiter, each in one step.
 
 ghost use Rattle.std.specs.Prelude.{◌≡◌, ◌<◌};
-ghost use Rattle.kc_limiter.specs.Asking.{are_in_a_store, asks_in, asks_permit, asks_until_given};
+ghost use Rattle.kc_limiter.specs.Asking.{are_in_a_store, asks_in, asks_permit, asks_until_given, turns_window};
 ghost use Rattle.kc_limiter.specs.Limits.{IsLimiterLaid};
 ghost use Rattle.kc_limiter.specs.declared.limiter.TheConstants.{CLIENTS};
 
-use crate::limiter::{CLIENTS, Limiter, PERMITS};
+use crate::limiter::{CLIENTS, LAST_WINDOW, Limiter, PERMITS};
 use kc_compose::{Both, Fed, Feed, Say, Sort, WaitOn, When, enq_wait};
 use kc_loc::LocOp;
 use kc_model::{Loc, Reply};
@@ -85,6 +85,20 @@ impl Limiter {
         WaitOn {
             of: self.permit(client),
             at: Sort::Refusal,
+        }
+    }
+
+    /// Turns the window to the next one, or replies `false` where there is none.
+    pub fn turn(&self) -> When<LocOp, Say, LocOp>
+        ensures { result ≡ turns_window self.now }
+    {
+        When {
+            ask: LocOp::Get(self.window),
+            is: Sort::Is(LAST_WINDOW),
+            then: Say {
+                reply: Reply::Bool(false),
+            },
+            otherwise: LocOp::Incr(self.window),
         }
     }
 }

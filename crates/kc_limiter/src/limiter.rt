@@ -17,6 +17,9 @@ pub const CLIENTS: u32 = 2;
 /// How many permits a client is given in a window, at most.
 pub const PERMITS: u32 = 3;
 
+/// The number of the last window, which doesn't end.
+pub const LAST_WINDOW: u32 = u32::MAX;
+
 /// The number of the window; for each client the window of its latest permit, and how many it was given in that; and the line of
 /// the clients that were given one. They lie one behind another.
 #[derive(Clone, Copy)]
@@ -27,7 +30,7 @@ pub struct Limiter {
     pub granted: Queue,
 }
 
-/// No client has more permits in a window than it may.
+/// No client has more permits in the window than it may.
 impl Invariant for Limiter {
     ghost holds = { HasCounts };
 
@@ -36,7 +39,7 @@ impl Invariant for Limiter {
     fn is_kept(&self) {}
 }
 
-/// Who comes into the line is counted.
+/// Who comes into the line is counted, and the window's number rises by one or stays.
 impl Stepping for Limiter {
     ghost steps = { CountsGo };
 

@@ -10,7 +10,6 @@ ghost use Rattle.kc_queue.specs.Meaning.{queue_cells_end};
 use crate::limiter::{CLIENTS, Limiter, PERMITS};
 use kc_keep::{both_callers, commit_kept, finish_served, open_for_two, serving_adds_up};
 use kc_lay::Layout;
-use kc_loc::LocOp;
 use kc_model::Reply;
 use kc_queue::{QueueAct, QueueOp};
 use kc_store::{Caller, Past, Store};
@@ -22,7 +21,8 @@ use std::{io, thread};
 // How many windows there are.
 const WINDOWS: u32 = 3;
 
-/// Both threads come back, and the one history shows; beside it how many permits were given, and how many were taken.
+/// Both threads come back, and the one history shows. Beside it stand how many permits were given and how many were taken, as the
+/// threads counted their replies; the contract doesn't say that the history has so many.
 pub fn run_limiter<R: Threads + Wait + Sync>(
     rt: &R,
     alloc: Global,
@@ -114,14 +114,14 @@ fn work<R: Wait>(rt: &R, store: &Store, mut worker: Caller, limiter: &Limiter) -
     (worker, taken)
 }
 
-// Turns the window where so many permits are all of one.
+// Turns the window where so many permits are all of one; behind the last window nothing is done.
 fn turn_at<R: Wait>(rt: &R, store: &Store, worker: &mut Caller, limiter: &Limiter, number: u32)
     requires worker { worker.old.of ≡ store.now }
     requires limiter { HasLimiter limiter.now store.now.locations }
     ensures { Serves (GivesSo limiter.now) worker.old worker.new }
 {
     serving_adds_up(limiter);
-    let turn = LocOp::Incr(limiter.window);
+    let turn = limiter.turn();
     if number % (CLIENTS * PERMITS) == 0 {
         commit_kept(rt, store, worker, limiter, &turn);
     }

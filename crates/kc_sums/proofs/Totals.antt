@@ -4,7 +4,7 @@ use Rattle.kc_cells.proofs.Sums.{sum_more, sums_plain}
 use Rattle.kc_cells.specs.Accumulator.{acc_meaning, acc_program, cells_sum}
 use Rattle.kc_cells.specs.declared.accumulator.AccAct.TheVariants.{Total}
 use Rattle.kc_cells.specs.declared.accumulator.Accumulator.{Accumulator}
-use Rattle.kc_keep.specs.Keeping.{IsKeptBy, SaysWhere}
+use Rattle.kc_keep.specs.Keeping.{CommitsReply, SawReply, ViewsReply, IsKeptBy, SaysWhere}
 use Rattle.kc_model.specs.Store.{Store}
 use Rattle.kc_model.specs.declared.footprint.Entry.{Entry}
 use Rattle.kc_model.specs.declared.footprint.TheConstants.{MOST}
@@ -53,8 +53,8 @@ each_keeps b m (inl t) = transfer_is_kept b m t
 each_keeps b m (inr r) = reading_is_kept b m r
 
 -- what it replied, where they have what they opened with
-pub view_exact : (b : Bank) (sum : ℕ) (c d : CallerView) (s : Store) (es : List Entry) (saw : SawTotal b sum c d) → SaysWhere (HasTotal b) s es c.known (limited MOST saw.meaning) (reply.Value sum) → sum ≡ b.accounts * b.each
-view_exact b sum c d s es saw at =
+says_exact : (b : Bank) (sum : ℕ) (c d : CallerView) (s : Store) (es known : List Entry) (saw : SawTotal b sum c d) → SaysWhere (HasTotal b) s es known (limited MOST saw.meaning) (reply.Value sum) → sum ≡ b.accounts * b.each
+says_exact b sum c d s es known saw at =
     let r = saw.reading in
     let t = at.seen.store in
     let h = at.seen.there in
@@ -62,3 +62,10 @@ view_exact b sum c d s es saw at =
     let whole : cells_sum (values t) r.all.base.0 r.all.cells ≡ b.accounts * b.each =
     ap (λ l. cells_sum (values t) l r.all.cells) r.base ∙ ap (cells_sum (values t) 0) r.cells ∙ sym (sum_is_cells b.accounts (values t)) ∙ h.1 in
     same_number _ _ read.0 ∙ ap wrapped whole ∙ small (b.accounts * b.each) h.0
+
+pub view_exact : (b : Bank) (sum : ℕ) (c d : CallerView) (s : Store) (es : List Entry) (saw : SawTotal b sum c d) → (SawReply (limited MOST saw.meaning) (reply.Value sum) c d → SaysWhere (HasTotal b) s es c.known (limited MOST saw.meaning) (reply.Value sum)) → (CommitsReply (limited MOST saw.meaning) (reply.Value sum) c d → SaysWhere (HasTotal b) s es c.own (limited MOST saw.meaning) (reply.Value sum)) → sum ≡ b.accounts * b.each
+view_exact b sum c d s es saw views commits = go saw.saw
+  where
+    go : ViewsReply (limited MOST saw.meaning) (reply.Value sum) c d → sum ≡ b.accounts * b.each
+    go (inl seen) = says_exact b sum c d s es c.known saw (views seen)
+    go (inr said) = says_exact b sum c d s es c.own saw (commits said)

@@ -1,6 +1,6 @@
 -- What all accounts have at each place of the history, and what a view of them saw.
 use Rattle.std.specs.Prelude.{◌≡◌, ℕ, ◌*◌, ◌++◌, List, replicate}
-use Rattle.kc_keep.specs.Keeping.{SawReply}
+use Rattle.kc_keep.specs.Keeping.{ViewsReply}
 use Rattle.kc_model.specs.Legal.{IsLegal}
 use Rattle.kc_model.specs.Store.{Store}
 use Rattle.kc_model.specs.declared.footprint.Entry.{Entry}
@@ -19,8 +19,8 @@ pub record HasTotalThroughout (b : Bank) (p : PastView) : Type 0 where
   pub legal : IsLegal (store_opening store) p.history (last p)
   pub exact : (before behind : List Entry) (t : Store) → p.history ≡ before ++ behind → IsLegal (store_opening store) before t → accounts_sum b.accounts (values t) ≡ b.accounts * b.each
 
--- a view of all accounts replied this
+-- a view of all accounts replied this, or the commit as which it ended
 pub record SawTotal (b : Bank) (sum : ℕ) (c d : CallerView) : Type 0 where
   pub meaning : Meaning
   pub reading : IsReading b meaning
-  pub saw : SawReply (limited MOST meaning) (reply.Value sum) c d
+  pub saw : ViewsReply (limited MOST meaning) (reply.Value sum) c d

@@ -14,11 +14,11 @@ use kc_store::{Caller, Store};
 use std::io;
 use std::sync::Wait;
 
-/// What all accounts have together, as one view of them saw it.
+/// What all accounts have together, as one view of them saw it, or the commit as which it ended.
 ///
 /// # Errors
 ///
-/// - Other: where they changed in each of the view's tries, so that it ended as a commit
+/// - Other: there was no reply, as where the view ended as a commit and no descriptor has a life left
 pub fn read_all<R: Wait>(rt: &R, store: &Store, caller: &mut Caller, bank: &Bank) -> io::Result<u32>
     requires caller { caller.old.of ≡ store.now }
     requires bank { IsBank bank.now }

@@ -1,4 +1,4 @@
-use Rattle.kc_limiter.proofs.Windows.{limited}
+use Rattle.kc_limiter.proofs.Windows.{limited, rises}
 use Rattle.kc_store.specs.Views.{last, store_opening}
 use Rattle.kc_limiter.proofs.running.run_limiter.Goals as goal
 
@@ -11,5 +11,6 @@ returns g c =
       legal = p.ensures.legal;
       counts = p.ensures.throughout;
       goes = p.ensures.steps;
-      windows = limited c.args.limiter.now (store_opening c.in_ok-store.store) (last p.result) p.result.history p.ensures.throughout p.ensures.steps p.ensures.legal;
+      rises = rises c.args.limiter.now (store_opening c.in_ok-store.store) (last p.result) p.result.history p.ensures.throughout p.ensures.steps;
+      windows = λ window client lt. limited c.args.limiter.now (store_opening c.in_ok-store.store) (last p.result) p.result.history p.ensures.throughout p.ensures.steps window client lt p.ensures.legal;
     }

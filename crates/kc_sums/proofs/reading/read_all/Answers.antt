@@ -13,4 +13,4 @@ pub returns-clause-saw : goal.returns-clause-saw
 returns-clause-saw g c =
     let x = c.layout-accounts.result in
     let reading = reading_of c.args.bank.now x c.layout-accounts.ensures.base c.layout-accounts.ensures.cells in
-    if_number _ _ _ _ (λ n saw. record { meaning = all_read x; reading = reading; saw = saw }) c.view_kept.ensures.saw c.number_of.ensures
+    if_number _ _ _ _ (λ n saw. record { meaning = all_read x; reading = reading; saw = saw }) c.view_kept.ensures.says c.number_of.ensures

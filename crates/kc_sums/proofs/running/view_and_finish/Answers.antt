@@ -1,4 +1,4 @@
-use Rattle.std.proofs.Common.{rules}
+use Rattle.std.proofs.Common.{Contains, arith, refl}
 use Rattle.kc_sums.proofs.Opened.{opens}
 use Rattle.kc_sums.proofs.Totals.{view_exact}
 use Rattle.kc_sums.proofs.running.view_and_finish.Goals as goal
@@ -22,6 +22,7 @@ returns-clause-throughout g c = record {
 
 pub returns-clause-sum : goal.returns-clause-sum
 returns-clause-sum g c =
-    let saw = c.in_ok-sum.ensures.saw in
-    view_exact c.args.bank.now _ _ _ _ _ saw
-    (c.finish_kept.ensures.views _ _ _ _ _ saw.saw (c.what_is_known_stays_known.ensures.same _).remembers saw.saw.ended (search rules))
+    let among : Contains c.in-Ok.callers.items c.read_all.new.caller = rw c.in-Ok.ensures.all (0, omega arith, refl) in
+    view_exact c.args.bank.now _ _ _ _ _ c.in_ok-sum.ensures.saw
+    (λ seen. c.finish_kept.ensures.views _ _ _ _ _ seen (c.what_is_known_stays_known.ensures.same _).remembers seen.ended among)
+    (λ said. c.finish_kept.ensures.commits _ _ _ _ _ said (c.serving_adds_up.ensures.same _) among)
