@@ -1,4 +1,0 @@
-pub mod Raised
-pub mod Throughout
-pub mod Stepping
-pub mod Owning
