@@ -1,0 +1,5 @@
+//! Tasks that wait for commits.
+#![tactic(auto)]
+
+#[cfg(test)]
+mod tasks;
