@@ -1,23 +1,25 @@
--- What the future of a commit gives.
-use Rattle.std.specs.Prelude.{◌≡◌, ℕ, ◌≤◌}
-use Rattle.kc_async.specs.Attempts.{EndsAnswered}
-use Rattle.kc_async.specs.declared.state.Committed.{Committed}
-use Rattle.kc_async.specs.declared.state.State.{State}
-use Rattle.kc_async.specs.declared.state.State.TheVariants as state
+-- What the futures of a commit give.
+use Rattle.std.specs.Prelude.{◌≡◌, ℕ, Option, Some, None}
+use Rattle.kc_async.specs.Attempts.{EndsSo, HasLooked}
+use Rattle.kc_async.specs.declared.committed.Committed.{Committed}
+use Rattle.kc_callers.specs.declared.borrowed.Borrowed.{Borrowed}
+use Rattle.kc_callers.specs.declared.callers.Callers.{Callers}
+use Rattle.kc_model.specs.declared.footprint.Footprint.{Footprint}
+use Rattle.kc_store.specs.Views.{CallerView}
+use Rattle.kc_store.specs.declared.verdict.Answered.{Answered}
 use Rattle.kc_xt.specs.Meaning.{Meaning}
 
-abbrev pub IsUnderWay : State → Type 0
-IsUnderWay state.Over = ⊥
-IsUnderWay _ = Unit {0}
+-- some looks, and then a commit that was answered so
+pub record EndsAtLast (m : Meaning) (end : ℕ) (a : Answered) (c : CallerView) (f : Footprint) (d : CallerView) : Type 0 where
+  pub last : CallerView
+  pub looked : HasLooked m c last
+  pub ends : EndsSo m end a last f d
 
--- from where its caller stands now
-abbrev pub GivesAnswer : Meaning → ℕ → State → Committed → Type 0
-GivesAnswer m end (state.Trying one) r = EndsAnswered m end one.caller r.footprint r.answered
-GivesAnswer m end (state.Hanging hang) r = EndsAnswered m end hang.hanging.caller r.footprint r.answered
-GivesAnswer m end state.Over r = Unit {0}
+-- by this very caller, from where it stands
+abbrev pub GivesAnswer : Meaning → ℕ → Option Borrowed → Committed → Type 0
+GivesAnswer m end None out = Unit {0}
+GivesAnswer m end (Some one) out = EndsAtLast m end out.answered one.caller out.footprint out.one.caller × (out.one.callers.now ≡ one.callers.now)
 
--- the store of its caller has so many locations at least
-abbrev pub LiesWithin : ℕ → State → Type 0
-LiesWithin end (state.Trying one) = end ≤ one.caller.of.locations
-LiesWithin end (state.Hanging hang) = end ≤ hang.hanging.caller.of.locations
-LiesWithin end state.Over = Unit {0}
+-- by one of these callers, who had it, as it stood then
+abbrev pub AnswersByTurns : Meaning → ℕ → Callers → Committed → Type 0
+AnswersByTurns m end callers out = (out.one.callers.now ≡ callers) × ((c : CallerView) × EndsSo m end out.answered c out.footprint out.one.caller)

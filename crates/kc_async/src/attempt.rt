@@ -1,58 +1,47 @@
-//! One try of a transaction, and what is to be done behind it.
+//! One try of a transaction by a task.
 
-ghost use Rattle.std.specs.Prelude.{◌≡◌, ◌≤◌, [], ◌≢◌};
-ghost use Rattle.kc_async.specs.Attempts.{AttemptsSo};
-ghost use Rattle.kc_await.specs.Waiting.{is_later};
+ghost use Rattle.std.specs.Prelude.{◌≡◌, ◌≤◌};
+ghost use Rattle.kc_async.specs.Attempts.{CameTo};
 ghost use Rattle.kc_xt.specs.Meaning.{limited};
 
 use crate::bells::Bells;
-use kc_callers::{Borrowed, BorrowedHang};
+use kc_callers::Borrowed;
 use kc_model::Footprint;
-use kc_store::{Answered, Wakes, answer_on, is_final};
-use kc_xt::{Transact, Trial};
+use kc_store::{Answered, Verdict};
+use kc_xt::Transact;
 
 /// What a try came to.
-pub enum Attempt<'a, 's> {
-    /// The commit is answered so, and not Later; the caller went back.
+#[derive(Drop)]
+pub enum Came {
+    /// The commit is answered so, and not Later.
     Ends(Answered),
     /// It is to be tried again.
-    Again(Borrowed<'a, 's>),
-    /// It would wait: its caller hangs on what it read.
-    Hangs(BorrowedHang<'a, 's>),
+    Again,
+    /// It has to wait for a change of what it read.
+    Waits,
 }
 
-// Tries it, and rings the bells of whom that signals.
-pub(crate) fn attempt<'a, 's, T: Transact>(
+// Tries it, and rings for what it put.
+pub(crate) fn attempt<T: Transact>(
     bells: &Bells,
-    one: Borrowed<'a, 's>,
+    one: &mut Borrowed<'_>,
     transaction: &T,
     footprint: &mut Footprint,
-) -> Attempt<'a, 's>
+) -> Came
     requires fit { T.is_fit transaction.now }
-    requires within { T.end transaction.now ≤ one.caller.of.locations }
-    ensures { AttemptsSo (limited (T.most transaction.now) (T.meaning transaction.now)) (T.end transaction.now) one.caller footprint.new result }
+    requires within { T.end transaction.now ≤ one.old.caller.of.locations }
+    ensures came { CameTo (limited (T.most transaction.now) (T.meaning transaction.now)) (T.end transaction.now) result one.old.caller footprint.new one.new.caller }
+    ensures callers { one.new.callers.now ≡ one.old.callers.now }
 {
-    let mut one = one;
-    let mut trial = Trial::new();
-    let mut wakes = Wakes::none();
-    let fate = one.try_in_place(transaction, &mut trial, footprint, &mut wakes);
-    bells.ring(wakes.bits());
-    if !is_final(fate, &trial) {
-        return Attempt::Again(one);
+    match one.try_commit_into(transaction, footprint) {
+        Verdict::Done(reply) => {
+            bells.ring(footprint);
+            Came::Ends(Answered::Done(reply))
+        }
+        Verdict::Later => Came::Waits,
+        Verdict::TooLarge => Came::Ends(Answered::TooLarge),
+        Verdict::WornLocation(loc) => Came::Ends(Answered::WornLocation(loc)),
+        Verdict::WornPool => Came::Ends(Answered::WornPool),
+        Verdict::Lost { .. } | Verdict::Busy { .. } => Came::Again,
     }
-    let answered = answer_on(fate, &trial);
-    if !is_later(&answered) {
-        one.give_back();
-        return Attempt::Ends(answered);
-    }
-    if footprint.reads.is_empty() {
-        return Attempt::Again(one);
-    }
-    Attempt::Hangs(one.hang(footprint))
-}
-
-fn is_later(answered: &Answered) -> bool
-    ensures { result ≡ is_later answered.now }
-{
-    matches!(answered, Answered::Later)
 }

@@ -1,124 +1,119 @@
-//! The future of a commit.
+//! The future of a commit, by a caller of its own.
 
-ghost use Rattle.std.specs.Prelude.{◌≡◌, ◌≤◌, ◌<◌};
-ghost use Rattle.kc_async.specs.Futures.{GivesAnswer, IsUnderWay, LiesWithin};
+ghost use Rattle.std.specs.Prelude.{◌≡◌, ◌≤◌, IfSome, IsSome, Some};
+ghost use Rattle.kc_async.specs.Futures.{GivesAnswer};
 ghost use Rattle.kc_xt.specs.Meaning.{limited};
 
-use crate::attempt::{Attempt, attempt};
+use crate::attempt::{Came, attempt};
 use crate::bells::{Bell, Bells};
-use crate::state::{Committed, State};
+use crate::committed::Committed;
+use crate::waiting::Waiting;
 use futures::Future;
 use futures::task::{Context, Poll};
-use kc_callers::{Borrowed, BorrowedHang};
+use kc_callers::Borrowed;
 use kc_model::Footprint;
-use kc_store::HangState;
 use kc_xt::Transact;
 use std::mem;
 
-/// A commit that waits, as a future. Where it would wait it hangs on what it read, and its task is woken once some of that may have
-/// changed. It has a caller until it is over; dropped before, it leaves its hang and gives the caller back.
-pub struct Committing<'a, 's, T: Transact + Drop> {
+/// A commit that waits, as a future. It never answers Later: where it has to wait for what it read, its task rests until some of that
+/// may have changed. It has its caller until it is over, and so no more of these wait than there are callers.
+pub struct Committing<'a, T: Transact + Drop> {
     bells: &'a Bells,
-    bell: &'a Bell,
+    waiting: Waiting<'a>,
     transaction: T,
     footprint: Footprint,
-    state: State<'a, 's>,
+    // None once it is over.
+    one: Option<Borrowed<'a>>,
     ghost fit: { T.is_fit transaction },
-    ghost within: { LiesWithin (T.end transaction) state },
+    ghost within: { IfSome one (λ b. T.end transaction ≤ b.caller.of.locations) },
 }
 
-impl<T: Transact + Drop> Drop for Committing<'_, '_, T> {
+impl<T: Transact + Drop> Drop for Committing<'_, T> {
     fn drop(self) {
         let Committing {
             bells: _,
-            bell: _,
-            transaction,
-            footprint,
-            state,
+            waiting,
+            transaction: _,
+            footprint: _,
+            one,
         } = self;
-        drop(transaction);
-        drop(footprint);
-        state.give_back();
+        waiting.leave();
+        if let Some(one) = one {
+            one.give_back();
+        }
     }
 }
 
-impl<'a, 's, T: Transact + Drop> Committing<'a, 's, T> {
-    /// The commit of a transaction by a caller that was lent.
-    pub fn new(bells: &'a Bells, one: Borrowed<'a, 's>, transaction: T) -> Committing<'a, 's, T>
+impl<'a, T: Transact + Drop> Committing<'a, T> {
+    /// The commit of a transaction by a caller that was lent. It waits at this of the bells.
+    pub fn new(
+        bells: &'a Bells,
+        number: usize,
+        one: Borrowed<'a>,
+        transaction: T,
+    ) -> Committing<'a, T>
         requires fit { T.is_fit transaction }
         requires within { T.end transaction ≤ one.caller.of.locations }
-        requires number { one.caller.number < 64 }
-        ensures state { result.state ≡ State.Trying one }
+        ensures one { result.one ≡ Some one }
         ensures transaction { result.transaction ≡ transaction }
     {
-        let bell = bells.at(one.number());
         Committing {
             bells,
-            bell,
+            waiting: Waiting::at(bells.at(number)),
             transaction,
             footprint: Footprint::new(),
-            state: State::Trying(one),
+            one: Some(one),
         }
     }
 }
 
-impl<'a, 's, T: Transact + Drop> Future for Committing<'a, 's, T> {
-    type Output = Committed;
+impl<'a, T: Transact + Drop> Future for Committing<'a, T> {
+    type Output = Committed<'a>;
 
-    ghost can_poll = { λ f. IsUnderWay f.state };
+    ghost can_poll = { λ f. IsSome f.one };
 
-    ghost needs = { λ f s. s ≡ f.bell.now.source.id };
+    ghost needs = { λ f s. s ≡ f.waiting.bell.now.source.id };
 
-    ghost gives = { λ f out. GivesAnswer (limited (T.most f.transaction) (T.meaning f.transaction)) (T.end f.transaction) f.state out };
+    ghost gives = { λ f out. GivesAnswer (limited (T.most f.transaction) (T.meaning f.transaction)) (T.end f.transaction) f.one out };
 
-    fn poll(&mut self, cx: &mut Context<'_>) -> Poll<Committed> {
-        match mem::replace(&mut self.state, State::Over) {
-            State::Over => unreachable!(),
-            State::Trying(one) => {
-                match attempt(self.bells, one, &self.transaction, &mut self.footprint) {
-                    Attempt::Ends(answered) => {
-                        let footprint = mem::replace(&mut self.footprint, Footprint::new());
-                        Poll::Ready(Committed {
-                            answered,
-                            footprint,
-                        })
-                    }
-                    Attempt::Again(one) => {
-                        self.state.turn_to(State::Trying(one));
-                        cx.yield_now()
-                    }
-                    Attempt::Hangs(hang) => {
-                        self.state.turn_to(State::Hanging(hang));
-                        cx.yield_now()
-                    }
-                }
+    fn poll(&mut self, cx: &mut Context<'_>) -> Poll<Committed<'a>> {
+        let Some(mut one) = self.one.take() else {
+            unreachable!()
+        };
+        let parked = self.waiting.park(cx);
+        match attempt(
+            self.bells,
+            &mut one,
+            &self.transaction,
+            &mut self.footprint,
+        ) {
+            Came::Ends(answered) => {
+                let footprint = mem::replace(&mut self.footprint, Footprint::new());
+                Poll::Ready(Committed {
+                    one,
+                    answered,
+                    footprint,
+                })
             }
-            State::Hanging(hang) => {
-                let (state, waits) = rest(self.bell, hang, cx);
-                self.state.turn_to(state);
-                waits
+            Came::Again => {
+                keep(one, &mut self.one);
+                cx.yield_now()
+            }
+            Came::Waits => {
+                keep(one, &mut self.one);
+                self.waiting.rest(cx, parked, &self.footprint)
             }
         }
     }
 }
 
-// Goes on with a hang. Where it hangs, the waker lies at the bell before the signal is looked for.
-fn rest<'a, 's>(
-    bell: &Bell,
-    hang: BorrowedHang<'a, 's>,
-    cx: &mut Context<'_>,
-) -> (State<'a, 's>, Poll<Committed>) {
-    let mut hang = hang;
-    hang.go_on();
-    match hang.state() {
-        HangState::Free => (State::Trying(hang.into_borrowed()), cx.yield_now()),
-        HangState::Going | HangState::Leaving => (State::Hanging(hang), cx.yield_now()),
-        HangState::Hung => {
-            let waits = bell.leave(cx);
-            if hang.heard() {
-                return (State::Hanging(hang), cx.yield_now());
-            }
-            (State::Hanging(hang), waits)
-        }
+// Puts a caller where none is.
+fn keep<'a>(one: Borrowed<'a>, at: &mut Option<Borrowed<'a>>)
+    requires { at.old ≡ None }
+    ensures { at.new ≡ Some one }
+{
+    match mem::replace(at, Some(one)) {
+        None => {}
+        Some(_) => unreachable!(),
     }
 }

@@ -2,4 +2,8 @@
 #![tactic(auto)]
 
 #[cfg(test)]
-mod tasks;
+mod dropping;
+#[cfg(test)]
+mod ring;
+#[cfg(test)]
+mod turns;
