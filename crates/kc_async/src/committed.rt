@@ -14,8 +14,8 @@ pub struct Committed<'a> {
 impl<'a> Committed<'a> {
     /// Gives the caller back.
     pub fn into_answered(self) -> (Answered, Footprint)
-        ensures answered { result.0 ≡ self.answered }
-        ensures footprint { result.1 ≡ self.footprint }
+        ensures answered { result.0 ≡ self.entry.answered }
+        ensures footprint { result.1 ≡ self.entry.footprint }
     {
         let Committed {
             one,

@@ -14,8 +14,16 @@ use Rattle.kc_store.specs.Backs.{AreAllCallers}
 use Rattle.kc_store.specs.Views.{CallerView, StoreView, opened_caller, opened_callers}
 use Rattle.kc_store.specs.kc_table_moves.Views.{count_from}
 
-abbrev Place : Type 0
+abbrev pub Place : Type 0
 Place = HolderView (StoreView × ℕ)
+
+length_push : {A : Type 0} (xs : List A) (x : A) → length (xs ++ x ∷ []) ≡ suc (length xs)
+length_push [] x = refl
+length_push (y ∷ xs) x = ap suc (length_push xs x)
+
+-- one more of each
+pub many_push : {A B : Type 0} (xs after : List A) (x : A) (ys : List B) (y : B) → after ≡ xs ++ x ∷ [] → length xs ≡ length ys → length after ≡ length (ys ++ y ∷ [])
+many_push xs after x ys y is many = ap length is ∙ length_push xs x ∙ ap suc many ∙ sym (length_push ys y)
 
 -- who fits a home
 abbrev pub Suits : StoreView × ℕ → Idle → Type 0
@@ -43,7 +51,9 @@ module _ (z : StoreView) where
 
   -- the one behind so many others, as they opened
   pub opened_at : (n : ℕ) (a : List CallerView) (c : CallerView) (b cs : List CallerView) → a ++ c ∷ b ≡ cs → cs ≡ opened_callers z 0 n → (c.of ≡ z) × (c.number ≡ length a)
-  opened_at n a c b cs all is = stands_at 0 a c b (subst (StandFrom 0) (sym (all ∙ is)) (opened_stand 0 n))
+  opened_at n a c b cs all is =
+      let s = stands_at 0 a c b (subst (StandFrom 0) (sym (all ∙ is)) (opened_stand 0 n)) in
+      let k = s.1 in (s.0, omega (arith, k))
 
   -- one more at the end
   pub stand_push : (k : ℕ) (cs : List CallerView) (c : CallerView) → StandFrom k cs → c.of ≡ z → c.number ≡ k + length cs → StandFrom k (cs ++ c ∷ [])

@@ -99,9 +99,9 @@ impl<'a> Borrowed<'a> {
 
     /// The caller, for other calls of the store, and the right to give it back to these callers.
     pub fn into_lent(self) -> (Caller, Loan<Idle>)
-        ensures caller { result.0 ≡ self.caller }
+        ensures caller { result.0 ≡ self.entry.caller }
         ensures number { result.0.number ≡ result.1.place }
-        ensures loan { IsLoanOf self.callers.now.desk.places.items result.1 }
+        ensures loan { IsLoanOf self.entry.callers.now.desk.places.items result.1 }
     {
         let Borrowed {
             callers: _,

@@ -7,4 +7,5 @@ invariant-loop-caller l = record {
   all : l.yielded ++ l.caller-iterator.rest.items ≡ l.fn.callers.items;
   many : length l.desk.places.items ≡ length l.yielded;
   homes : AreHomesOf l.fn.store l.desk.places.items;
+  home : l.home.0 ≡ l.fn.store;
 }
