@@ -1,9 +1,15 @@
 -- The tries of a commit, one after another.
-use Rattle.std.proofs.Common.{◌≡◌, ◌++◌, ◌||◌, ℕ, List, [], ◌∷◌, refl, sym, ap, subst, ◌∙◌, append_assoc, append-nil}
+use Rattle.std.proofs.Common.{◌≡◌, ◌++◌, ℕ, Option, Some, [], ◌∷◌, refl, sym, ap, subst, ◌∙◌, append_assoc, append-nil}
 use Rattle.std.specs.Prelude.{All}
 use Rattle.std.proofs.lemmas.List.Elements.{All-nil, All-cons, All-append}
 use Rattle.kc_async.specs.Attempts.{EndsSo, HasLooked}
-use Rattle.kc_async.specs.Futures.{EndsAtLast}
+use Rattle.futures.specs.Poll.{OnPending}
+use Rattle.futures.specs.declared.task.Poll.{Poll}
+use Rattle.futures.specs.declared.task.Poll.TheVariants.{Ready, Pending}
+use Rattle.kc_async.specs.Futures.{AnswersByTurns, EndsAtLast, GivesAnswer}
+use Rattle.kc_async.specs.declared.committed.Committed.{Committed}
+use Rattle.kc_callers.specs.declared.borrowed.Borrowed.{Borrowed}
+use Rattle.kc_callers.specs.declared.callers.Callers.{Callers}
 use Rattle.kc_await.specs.Adds.{IsLookOf}
 use Rattle.kc_model.specs.declared.footprint.Entry.{Entry}
 use Rattle.kc_model.specs.declared.footprint.Footprint.{Footprint}
@@ -13,6 +19,11 @@ use Rattle.kc_store.specs.Views.{CallerView}
 use Rattle.kc_store.specs.declared.verdict.Answered.{Answered}
 use Rattle.kc_store.specs.declared.verdict.Verdict.TheVariants as verdict
 use Rattle.kc_xt.specs.Meaning.{Meaning}
+
+-- what holds at any poll holds at one that is pending
+pub while_pending : {A : Type 0} {P : Type 0} (r : Poll A) → P → OnPending r P
+while_pending (Ready x) p = tt
+while_pending Pending p = p
 
 module _ (m : Meaning) where
   -- a try that came to nothing
@@ -54,3 +65,21 @@ module _ (m : Meaning) where
 
   pub ends_later : (end : ℕ) (a : Answered) (c d : CallerView) (f : Footprint) (e : CallerView) → HasLooked m c d → EndsAtLast m end a d f e → EndsAtLast m end a c f e
   ends_later end a c d f e h ends = record { last = ends.last; looked = looked_on c d ends.last h ends.looked; ends = ends.ends }
+
+  -- ---- what the futures give
+
+  answered : (end : ℕ) (out : Committed) (f : Footprint) (c : CallerView) → out.footprint ≡ f → EndsSo m end out.answered c f out.one.caller → EndsSo m end out.answered c out.footprint out.one.caller
+  answered end out f c same ends = subst (λ g. EndsSo m end out.answered c g out.one.caller) (sym same) ends
+
+  -- by this try
+  pub gives_at_once : (end : ℕ) (o : Option Borrowed) (one : Borrowed) (out : Committed) (f : Footprint) → Some one ≡ o → out.footprint ≡ f → EndsSo m end out.answered one.caller f out.one.caller → out.one.callers.now ≡ one.callers.now → GivesAnswer m end o out
+  gives_at_once end o one out f is same ends callers = subst (λ o. GivesAnswer m end o out) is (ends_at_once end out.answered one.caller out.footprint out.one.caller (answered end out f one.caller same ends), callers)
+
+  -- by a later one
+  pub gives_later : (end : ℕ) (o p : Option Borrowed) (one two : Borrowed) → Some one ≡ o → p ≡ Some two → HasLooked m one.caller two.caller → two.callers.now ≡ one.callers.now → (out : Committed) → GivesAnswer m end p out → GivesAnswer m end o out
+  gives_later end o p one two is then looked callers out gives =
+      let g = subst (λ p. GivesAnswer m end p out) then gives in
+      subst (λ o. GivesAnswer m end o out) is (ends_later end out.answered one.caller two.caller out.footprint out.one.caller looked g.0, g.1 ∙ callers)
+
+  pub gives_by_turns : (end : ℕ) (callers : Callers) (one : Borrowed) (out : Committed) (f : Footprint) → one.callers.now ≡ callers → out.footprint ≡ f → EndsSo m end out.answered one.caller f out.one.caller → out.one.callers.now ≡ one.callers.now → AnswersByTurns m end callers out
+  gives_by_turns end callers one out f is same ends still = (still ∙ is, (one.caller, answered end out f one.caller same ends))

@@ -1,7 +1,7 @@
 //! The future of a commit, by a caller that is borrowed for each look.
 
-ghost use Rattle.std.specs.Prelude.{◌≡◌, ◌≤◌, false};
-ghost use Rattle.kc_async.specs.Futures.{AnswersByTurns};
+ghost use Rattle.std.specs.Prelude.{◌≡◌, ◌≤◌};
+ghost use Rattle.kc_async.specs.Futures.{AnswersByTurns, IsYetToEnd};
 ghost use Rattle.kc_xt.specs.Meaning.{limited};
 
 use crate::attempt::{Came, attempt};
@@ -25,8 +25,6 @@ pub struct ByTurns<'a, T: Transact + Drop> {
     transaction: T,
     footprint: Footprint,
     is_over: bool,
-    ghost fit: { T.is_fit transaction },
-    ghost within: { T.end transaction ≤ callers.now.store.locations },
 }
 
 impl<T: Transact + Drop> Drop for ByTurns<'_, T> {
@@ -56,7 +54,7 @@ impl<'a, T: Transact + Drop> ByTurns<'a, T> {
         requires within { T.end transaction ≤ callers.now.store.locations }
         ensures callers { result.callers.now ≡ callers.now }
         ensures transaction { result.transaction ≡ transaction }
-        ensures begins { result.is_over ≡ false }
+        ensures begins { IsYetToEnd (T.is_fit result.transaction) (T.end result.transaction) result.callers.now result.is_over }
     {
         ByTurns {
             callers,
@@ -73,7 +71,7 @@ impl<'a, T: Transact + Drop> ByTurns<'a, T> {
 impl<'a, T: Transact + Drop> Future for ByTurns<'a, T> {
     type Output = Committed<'a>;
 
-    ghost can_poll = { λ f. f.is_over ≡ false };
+    ghost can_poll = { λ f. IsYetToEnd (T.is_fit f.transaction) (T.end f.transaction) f.callers.now f.is_over };
 
     ghost needs = { λ f s. s ≡ f.waiting.bell.now.source.id };
 

@@ -1,5 +1,7 @@
 //! What comes of a commit that a task waited for.
 
+ghost use Rattle.std.specs.Prelude.{◌≡◌};
+
 use kc_callers::Borrowed;
 use kc_model::Footprint;
 use kc_store::Answered;

@@ -1,7 +1,7 @@
 //! The future of a commit, by a caller of its own.
 
-ghost use Rattle.std.specs.Prelude.{◌≡◌, ◌≤◌, IfSome, IsSome, Some};
-ghost use Rattle.kc_async.specs.Futures.{GivesAnswer};
+ghost use Rattle.std.specs.Prelude.{◌≡◌, ◌≤◌, None, Some};
+ghost use Rattle.kc_async.specs.Futures.{GivesAnswer, IsUnderWay};
 ghost use Rattle.kc_xt.specs.Meaning.{limited};
 
 use crate::attempt::{Came, attempt};
@@ -24,8 +24,6 @@ pub struct Committing<'a, T: Transact + Drop> {
     footprint: Footprint,
     // None once it is over.
     one: Option<Borrowed<'a>>,
-    ghost fit: { T.is_fit transaction },
-    ghost within: { IfSome one (λ b. T.end transaction ≤ b.caller.of.locations) },
 }
 
 impl<T: Transact + Drop> Drop for Committing<'_, T> {
@@ -54,8 +52,9 @@ impl<'a, T: Transact + Drop> Committing<'a, T> {
     ) -> Committing<'a, T>
         requires fit { T.is_fit transaction }
         requires within { T.end transaction ≤ one.caller.of.locations }
-        ensures one { result.one ≡ Some one }
+        ensures one { result.one ≡ Some one.entry }
         ensures transaction { result.transaction ≡ transaction }
+        ensures begins { IsUnderWay (T.is_fit result.transaction) (T.end result.transaction) result.one }
     {
         Committing {
             bells,
@@ -70,7 +69,7 @@ impl<'a, T: Transact + Drop> Committing<'a, T> {
 impl<'a, T: Transact + Drop> Future for Committing<'a, T> {
     type Output = Committed<'a>;
 
-    ghost can_poll = { λ f. IsSome f.one };
+    ghost can_poll = { λ f. IsUnderWay (T.is_fit f.transaction) (T.end f.transaction) f.one };
 
     ghost needs = { λ f s. s ≡ f.waiting.bell.now.source.id };
 
@@ -110,7 +109,7 @@ impl<'a, T: Transact + Drop> Future for Committing<'a, T> {
 // Puts a caller where none is.
 fn keep<'a>(one: Borrowed<'a>, at: &mut Option<Borrowed<'a>>)
     requires { at.old ≡ None }
-    ensures { at.new ≡ Some one }
+    ensures { at.new ≡ Some one.entry }
 {
     match mem::replace(at, Some(one)) {
         None => {}
