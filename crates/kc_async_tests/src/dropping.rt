@@ -76,7 +76,13 @@ fn by_turns<R: Wait + RandomSource + AllocGlobal>(
 #[test]
 fn a_commit_is_given_up_and_its_caller_is_back(rt: HostRuntime) -> Result<(), Fail> {
     for polls in 0..4 {
-        assert_eq!(rt; (own(&rt, rt.alloc(), polls), by_turns(&rt, rt.alloc(), polls)), (Some(true), Some(true)));
+        assert_eq!(rt;
+            (
+                own(&rt, rt.alloc(), polls),
+                by_turns(&rt, rt.alloc(), polls)
+            ),
+            (Some(true), Some(true))
+        );
     }
     Ok(())
 }

@@ -54,13 +54,8 @@ fn rounds<R: Wait + RandomSource + AllocGlobal>(
             callers,
             number,
             LocOp::Check(Loc(0), Rel::Eq, wanted),
-        ) && is_done(
-            rt,
-            bells,
-            callers,
-            number,
-            LocOp::Set(Loc(0), wanted + 1),
-        ) {
+        ) && is_done(rt, bells, callers, number, LocOp::Set(Loc(0), wanted + 1))
+        {
             done = done.saturating_add(1);
         }
     }
@@ -76,10 +71,15 @@ fn all_round<R: Wait + RandomSource + AllocGlobal + Threads + Sync>(
 ) -> Option<bool>
     requires location { 0 < callers.now.store.locations }
 {
-    let done = thread::map_indices(rt, alloc, TASKS, &|i: usize|
-        requires location { 0 < callers.now.store.locations }
-        requires number { i < 24 }
-    { rounds(rt, bells, callers, i) })
+    let done = thread::map_indices(
+        rt,
+        alloc,
+        TASKS,
+        &|i: usize|
+            requires location { 0 < callers.now.store.locations }
+            requires number { i < 24 }
+        { rounds(rt, bells, callers, i) },
+    )
     .ok()?;
     Some(done.iter().all(|each| *each == ROUNDS))
 }

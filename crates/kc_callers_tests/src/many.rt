@@ -49,18 +49,19 @@ fn adds<R: Wait>(rt: &R, callers: &Callers, from: usize) -> u32
 }
 
 // What the location holds once all threads have ended, each of whose adds was done.
-fn sum_by_many<R: Threads + Wait + Sync>(
-    rt: &R,
-    alloc: Global,
-    callers: &Callers,
-) -> Option<u32>
+fn sum_by_many<R: Threads + Wait + Sync>(rt: &R, alloc: Global, callers: &Callers) -> Option<u32>
     requires some { 0 < callers.now.store.callers }
     requires location { 0 < callers.now.store.locations }
 {
-    let done = thread::map_indices(rt, alloc, THREADS, &|i: usize|
-        requires some { 0 < callers.now.store.callers }
-        requires location { 0 < callers.now.store.locations }
-    { adds(rt, callers, i) })
+    let done = thread::map_indices(
+        rt,
+        alloc,
+        THREADS,
+        &|i: usize|
+            requires some { 0 < callers.now.store.callers }
+            requires location { 0 < callers.now.store.locations }
+        { adds(rt, callers, i) },
+    )
     .ok()?;
     for each in done.iter() {
         if *each != ADDS {
@@ -95,7 +96,10 @@ fn run<R: Threads + Wait + Sync>(rt: &R, alloc: Global) -> Option<(u32, usize)> 
 
 #[test]
 fn two_hundred_threads_add_with_sixty_four_callers(rt: HostRuntime) -> Result<(), Fail> {
-    assert_eq!(rt; run(&rt, rt.alloc()), Some((THREADS as u32 * ADDS, CALLERS as usize)));
+    assert_eq!(rt;
+        run(&rt, rt.alloc()),
+        Some((THREADS as u32 * ADDS, CALLERS as usize))
+    );
     Ok(())
 }
 
