@@ -11,7 +11,7 @@ use Rattle.kc_callers.specs.Lending.{FitsPlace}
 use Rattle.kc_callers.specs.declared.home.Idle.{Idle}
 use Rattle.kc_holder.specs.Lent.{HolderView}
 use Rattle.kc_store.specs.Backs.{AreAllCallers}
-use Rattle.kc_store.specs.Views.{CallerView, StoreView, opened_caller, opened_callers}
+use Rattle.kc_store.specs.Views.{CallerView, StoreView, opened_callers}
 use Rattle.kc_store.specs.kc_table_moves.Views.{count_from}
 
 abbrev pub Place : Type 0

@@ -1,5 +1,5 @@
 -- Places that are made one after another.
-use Rattle.std.proofs.Common.{◌≡◌, ℕ, zero, suc, ◌<◌, ◌++◌, List, [], ◌∷◌, length, arith}
+use Rattle.std.proofs.Common.{ℕ, zero, suc, ◌<◌, ◌++◌, List, [], ◌∷◌, length, arith}
 use Rattle.std.proofs.Math.ListN.{get_or}
 
 -- one more, at the end

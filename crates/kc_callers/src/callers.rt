@@ -23,11 +23,7 @@ pub struct Callers {
 
 impl Callers {
     /// All callers of a store, as it was opened with them.
-    pub fn open(
-        alloc: Global,
-        store: Store,
-        callers: Vec<Caller>,
-    ) -> Result<Callers, AllocError>
+    pub fn open(alloc: Global, store: Store, callers: Vec<Caller>) -> Result<Callers, AllocError>
         requires { callers.items ≡ opened_callers store 0 store.callers }
         ensures { IfOk result (λ c. c.store ≡ store) }
     {

@@ -41,11 +41,7 @@ impl Callers {
 }
 
 // All of them, where each is back.
-fn all_home(
-    store: &Store,
-    idle: Vec<Option<Idle>>,
-    room: Vec<Caller>,
-) -> Option<Vec<Caller>>
+fn all_home(store: &Store, idle: Vec<Option<Idle>>, room: Vec<Caller>) -> Option<Vec<Caller>>
     requires home { AreAtHome store.now 0 idle.items }
     requires all { length idle.items ≡ store.now.callers }
     requires empty { room.items ≡ [] }
