@@ -1,1 +1,3 @@
 pub mod Beside
+pub mod Homes
+pub mod Places

@@ -1,2 +1,4 @@
+pub mod Closing
+pub mod Homes
 pub mod Lending
 pub mod Loans

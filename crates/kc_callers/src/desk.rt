@@ -1,6 +1,6 @@
 //! What stands in places, and is lent.
 
-ghost use Rattle.std.specs.Prelude.{◌≡◌, ◌<◌, ◌++◌, ◌∷◌, [], IfErr, IfSome, length, map};
+ghost use Rattle.std.specs.Prelude.{◌≡◌, ◌<◌, ◌++◌, ◌∷◌, [], IfErr, IfOk, IfSome, length, map};
 ghost use Rattle.std.specs.List.{AllZip};
 ghost use Rattle.kc_callers.specs.Lending.{AddsPlace, FitsPlace};
 ghost use Rattle.kc_callers.specs.Loans.{IsLoanOf};
@@ -9,6 +9,7 @@ use crate::loan::Loan;
 use counted_slot::Fits;
 use kc_holder::Holder;
 use std::alloc::{AllocError, Global};
+use std::sync::Wait;
 
 /// Places, in each of which a value stands or is lent. Each value fits the tag of its place.
 #[derive(Drop)]
@@ -58,6 +59,20 @@ impl<X: Fits + Drop> Desk<X> {
         None
     }
 
+    /// Lends a value likewise, and where each is out sleeps until that of the first place is back.
+    pub fn lend_waiting<R: Wait>(&self, rt: &R, from: usize) -> (X, Loan<X>)
+        requires places { 0 < length self.now.places.items }
+        ensures fits { FitsPlace X.fits self.now.places.items result.1.place result.0 }
+        ensures loan { IsLoanOf self.now.places.items result.1 }
+    {
+        if let Some(lent) = self.lend(from) {
+            return lent;
+        }
+        let place = from % self.places.len();
+        let (value, taken) = self.places[place].take(rt);
+        (value, Loan { place, taken })
+    }
+
     /// Gives a value back to the place that lent it.
     pub fn give(&self, loan: Loan<X>, value: X)
         requires loan { IsLoanOf self.now.places.items loan }
@@ -67,16 +82,19 @@ impl<X: Fits + Drop> Desk<X> {
         self.places[place].give(taken, value);
     }
 
-    /// What stands there at the end, in the order of the places. None: something was lent and didn't come back, or there was no
-    /// memory for the list.
-    pub fn close(self, alloc: Global) -> Option<Vec<X>>
-        ensures { IfSome result (λ values. AllZip (λ h x. X.fits h.tag x) self.places.items values.items) }
+    /// What stands at each place at the end, in their order. None stands for what was lent and didn't come back. Where there is no
+    /// memory for the list, the desk comes back as it was.
+    pub fn close(self, alloc: Global) -> Result<Vec<Option<X>>, Desk<X>>
+        ensures ok { IfOk result (λ values. AllZip (λ h x. IfSome x (X.fits h.tag)) self.places.items values.items) }
+        ensures err { IfErr result (λ desk. desk ≡ self) }
     {
+        let Ok(mut values) = Vec::with_capacity(alloc, self.places.len()) else {
+            return Err(self);
+        };
         let Desk { places } = self;
-        let mut values = Vec::with_capacity(alloc, places.len()).ok()?;
         for place in places {
-            values.push_reserved(place.into_inner()?);
+            values.push_reserved(place.into_inner());
         }
-        Some(values)
+        Ok(values)
     }
 }

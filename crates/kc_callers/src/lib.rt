@@ -4,8 +4,16 @@
 //! borrows one. A caller's own entries are those of its number, whoever had it.
 #![tactic(auto)]
 
+mod borrowed;
+mod callers;
+mod closed;
 mod desk;
+mod home;
 mod loan;
 
+pub use borrowed::Borrowed;
+pub use callers::Callers;
+pub use closed::Closed;
 pub use desk::Desk;
+pub use home::{Home, Idle};
 pub use loan::Loan;

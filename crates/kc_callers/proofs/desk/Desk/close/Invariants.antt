@@ -1,4 +1,4 @@
-use Rattle.std.proofs.Common.{◌≡◌, ◌++◌, length, vec_capacity}
+use Rattle.std.proofs.Common.{◌≡◌, ◌++◌, length, vec_capacity, IfSome}
 use Rattle.std.specs.List.{AllZip}
 use Rattle.kc_callers.proofs.desk.Desk.close.Given as goal
 
@@ -7,5 +7,5 @@ invariant-loop-place g l = record {
   all : l.yielded ++ l.place-iterator.rest.items ≡ l.fn.self.places.items;
   space : vec_capacity l.values ≡ length l.fn.self.places.items;
   many : length l.values.items ≡ length l.yielded;
-  each : AllZip (λ h x. g.X.Fits.fits h.tag x) l.yielded l.values.items;
+  each : AllZip (λ h x. IfSome x (g.X.Fits.fits h.tag)) l.yielded l.values.items;
 }

@@ -1,0 +1,3 @@
+pub mod Attempts
+pub mod Futures
+pub use Rattle.kc_callers.specs as kc_callers
