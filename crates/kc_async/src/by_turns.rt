@@ -82,12 +82,7 @@ impl<'a, T: Transact + Drop> Future for ByTurns<'a, T> {
             return cx.yield_now();
         };
         let parked = self.waiting.park(cx);
-        match attempt(
-            self.bells,
-            &mut one,
-            &self.transaction,
-            &mut self.footprint,
-        ) {
+        match attempt(self.bells, &mut one, &self.transaction, &mut self.footprint) {
             Came::Ends(answered) => {
                 self.is_over = true;
                 let footprint = mem::replace(&mut self.footprint, Footprint::new());

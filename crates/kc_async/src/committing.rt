@@ -80,12 +80,7 @@ impl<'a, T: Transact + Drop> Future for Committing<'a, T> {
             unreachable!()
         };
         let parked = self.waiting.park(cx);
-        match attempt(
-            self.bells,
-            &mut one,
-            &self.transaction,
-            &mut self.footprint,
-        ) {
+        match attempt(self.bells, &mut one, &self.transaction, &mut self.footprint) {
             Came::Ends(answered) => {
                 let footprint = mem::replace(&mut self.footprint, Footprint::new());
                 Poll::Ready(Committed {

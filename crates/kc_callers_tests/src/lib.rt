@@ -1,5 +1,0 @@
-//! Threads that borrow the callers of a store.
-#![tactic(auto)]
-
-#[cfg(test)]
-mod many;
