@@ -6,7 +6,7 @@ use Rattle.kc_async.specs.Attempts.{EndsSo, HasLooked}
 use Rattle.futures.specs.Poll.{OnPending}
 use Rattle.futures.specs.declared.task.Poll.{Poll}
 use Rattle.futures.specs.declared.task.Poll.TheVariants.{Ready, Pending}
-use Rattle.kc_async.specs.Futures.{AnswersByTurns, EndsAtLast, GivesAnswer}
+use Rattle.kc_async.specs.Futures.{AnswersByTurns, LooksThenEnds, GivesAnswer}
 use Rattle.kc_async.specs.declared.committed.Committed.{Committed}
 use Rattle.kc_callers.specs.declared.borrowed.Borrowed.{Borrowed}
 use Rattle.kc_callers.specs.declared.callers.Callers.{Callers}
@@ -60,10 +60,10 @@ module _ (m : Meaning) where
     worn = k.worn ∙ h.worn;
   }
 
-  pub ends_at_once : (end : ℕ) (a : Answered) (c : CallerView) (f : Footprint) (d : CallerView) → EndsSo m end a c f d → EndsAtLast m end a c f d
+  pub ends_at_once : (end : ℕ) (a : Answered) (c : CallerView) (f : Footprint) (d : CallerView) → EndsSo m end a c f d → LooksThenEnds m end a c f d
   ends_at_once end a c f d ends = record { last = c; looked = not_looked c; ends = ends }
 
-  pub ends_later : (end : ℕ) (a : Answered) (c d : CallerView) (f : Footprint) (e : CallerView) → HasLooked m c d → EndsAtLast m end a d f e → EndsAtLast m end a c f e
+  pub ends_later : (end : ℕ) (a : Answered) (c d : CallerView) (f : Footprint) (e : CallerView) → HasLooked m c d → LooksThenEnds m end a d f e → LooksThenEnds m end a c f e
   ends_later end a c d f e h ends = record { last = ends.last; looked = looked_on c d ends.last h ends.looked; ends = ends.ends }
 
   -- ---- what the futures give

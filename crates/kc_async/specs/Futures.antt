@@ -21,7 +21,7 @@ pub record IsYetToEnd (fits : Type 0) (end : ℕ) (callers : Callers) (is_over :
   pub goes_on : is_over ≡ false
 
 -- some looks, and then a commit that was answered so
-pub record EndsAtLast (m : Meaning) (end : ℕ) (a : Answered) (c : CallerView) (f : Footprint) (d : CallerView) : Type 0 where
+pub record LooksThenEnds (m : Meaning) (end : ℕ) (a : Answered) (c : CallerView) (f : Footprint) (d : CallerView) : Type 0 where
   pub last : CallerView
   pub looked : HasLooked m c last
   pub ends : EndsSo m end a last f d
@@ -29,7 +29,7 @@ pub record EndsAtLast (m : Meaning) (end : ℕ) (a : Answered) (c : CallerView) 
 -- by this very caller, from where it stands
 abbrev pub GivesAnswer : Meaning → ℕ → Option Borrowed → Committed → Type 0
 GivesAnswer m end None out = Unit {0}
-GivesAnswer m end (Some one) out = EndsAtLast m end out.answered one.caller out.footprint out.one.caller × (out.one.callers.now ≡ one.callers.now)
+GivesAnswer m end (Some one) out = LooksThenEnds m end out.answered one.caller out.footprint out.one.caller × (out.one.callers.now ≡ one.callers.now)
 
 -- by one of these callers, who had it, as it stood then
 abbrev pub AnswersByTurns : Meaning → ℕ → Callers → Committed → Type 0
