@@ -8,7 +8,7 @@ use crate::asserts::equal;
 use kc_lasting::{Attempt, LastingCaller, open_at};
 use kc_loc::LocOp;
 use kc_model::{Footprint, Loc, Reply};
-use kc_store::{Fate, Viewed, Wakes};
+use kc_store::{Fate, Viewed};
 use kc_xt::{Transact, Trial, Went};
 use std::alloc::Global;
 use std::process::Abort;
@@ -76,18 +76,26 @@ fn a_late_view_sees_the_last_era(rt: HostRuntime) {
     equal(&rt, late.era(), 25);
 }
 
+#[test]
+fn reads_and_views_end_no_era(rt: HostRuntime) {
+    let (mut late, mut busy) = two(&rt);
+    for _ in 0..100 {
+        equal(&rt, read(&rt, &mut late, 0), Some(0));
+        equal(&rt, viewed(&rt, &mut busy), Some(Reply::Value(0)));
+    }
+    equal(&rt, (late.era(), busy.era()), (0, 0));
+    equal(&rt, add(&rt, &mut busy, 0), Some(0));
+    equal(&rt, read(&rt, &mut late, 0), Some(1));
+}
+
 // Whether one try of an add was done, and was not cut away.
 fn tried<R: Wait>(rt: &R, caller: &mut LastingCaller) -> Option<bool> {
     if caller.locations() == 0 {
         return None;
     }
     let mut trial = Trial::new();
-    let mut wakes = Wakes::none();
     let add = LocOp::FetchAdd(Loc(0), 1);
-    let attempt = caller.try_in_place(rt, &add, &mut trial, &mut Footprint::new(), &mut wakes);
-    // Nobody hangs.
-    wakes.bits();
-    match attempt {
+    match caller.try_in_place(rt, &add, &mut trial, &mut Footprint::new()) {
         Attempt::Came(Fate::Entered { .. }) => Some(matches!(trial.went, Went::Done)),
         Attempt::Came(_) => None,
         Attempt::Renewed => Some(false),
@@ -105,15 +113,18 @@ fn a_late_try_is_cut_away_and_the_next_one_stands(rt: HostRuntime) {
 
 #[test]
 fn a_late_handle_is_taken_in(rt: HostRuntime) {
-    let (late, mut busy) = a_late_one(&rt);
-    equal(&rt, busy.take_in(&rt, late), true);
+    let (mut late, mut busy) = a_late_one(&rt);
+    equal(&rt, busy.take_in(&rt, &mut late), true);
     equal(&rt, read(&rt, &mut busy, 0), Some(101));
 }
 
 #[test]
-fn all_handles_come_back(rt: HostRuntime) {
+fn the_eras_of_all_handles_end(rt: HostRuntime) {
     let (late, mut busy) = a_late_one(&rt);
-    let others = Vec::from_array(rt.alloc(), [late]).expect(&rt, "no memory");
-    equal(&rt, busy.finish(&rt, others), true);
+    let mut others = [late];
+    equal(&rt, busy.finish(&rt, &mut others), true);
     equal(&rt, read(&rt, &mut busy, 0), Some(101));
+    let [mut late] = others;
+    equal(&rt, add(&rt, &mut late, 0), Some(101));
+    equal(&rt, (late.era(), busy.era()), (26, 26));
 }
