@@ -59,9 +59,10 @@ with kcas.open(layout, callers=2) as (one, other):
     raises(ValueError, lambda: one.first(*[[x.get()]] * 5))
     raises(ValueError, lambda: one.add(queue, 1))
     outside = kcas.Layout()
-    outside.values = [0] * 60000
+    for _ in range(14):
+        outside.queue(4096)
     far = outside.loc()
-    assert raises(kcas.BadOps, lambda: one.commit(x.set(77), far.get()), "KCAS_BAD_OPS", "operation 1", "get", "60000").operation == 1
+    assert raises(kcas.BadOps, lambda: one.commit(x.set(77), far.get()), "KCAS_BAD_OPS", "operation 1", "get", str(far.base)).operation == 1
     assert one.read(x) == 0
     raises(kcas.Waits, lambda: one.commit(queue.deqw()))
     start = time.monotonic()
