@@ -20,11 +20,11 @@ echo 'kc_bench_lasting: kc_lasting kc_await kc_loc kc_model kc_queue kc_store kc
 program="$room/program"
 "$room/kcas/tools/bench/unproved/build.sh" kc_bench_lasting "$program" > "$room/built" 2>&1 || { cat "$room/built" >&2; exit 1; }
 
-# Stores near the last versions, to which so many calls for memory are granted, and then so many refused. Below 34 none opens.
+# Stores near the last versions, to which so many calls for memory are granted, and then so many refused. With fewer than 40 none opens.
 want_memory() {
     "${CC:-cc}" -O1 -shared -fPIC "$top/tools/bench/lasting/failing.c" -o "$room/failing.so" -ldl
     local granted
-    for granted in $(seq 34 80); do
+    for granted in $(seq 40 80); do
         GRANTED=$granted REFUSED=$((granted * 400)) LD_PRELOAD="$room/failing.so" "$program" wanting 50
     done
 }
