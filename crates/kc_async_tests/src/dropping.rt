@@ -1,29 +1,60 @@
 //! Tasks that are dropped while they wait.
 
+ghost use Rattle.std.specs.Prelude.{◌<◌, IfSome};
+ghost use Rattle.kc_async.specs.Futures.{IsUnderWay, IsYetToEnd};
+
 use futures::Future;
 use futures::executor::block_on;
 use futures::task::{Context, Poll};
-use kc_async::{Bells, ByTurns, Committed, Committing};
+use kc_async::{Bells, ByTurns, Committing};
 use kc_callers::{Borrowed, Callers, Closed};
 use kc_loc::{LocOp, Rel};
 use kc_model::Loc;
 use kc_store::Store;
+use kc_xt::Transact;
 use std::alloc::{AllocGlobal, Global};
 use std::random::RandomSource;
 use std::sync::Wait;
 use std::test::Fail;
 
-// A commit that is polled so often, whether it was woken or not, and then given up.
+// A commit that has its own caller: it is polled so often, whether it was woken or not, and then given up.
 #[derive(Drop)]
-struct GivenUp<F: Future> {
-    waiting: F,
+struct WithOwn<'a, T: Transact + Drop> {
+    waiting: Committing<'a, T>,
     polls: u32,
 }
 
-impl<'a, F: Future<Output = Committed<'a>>> Future for GivenUp<F> {
+impl<'a, T: Transact + Drop> Future for WithOwn<'a, T> {
     type Output = ();
 
-    ghost can_poll = { λ g. F.can_poll g.waiting };
+    ghost can_poll = { λ o. IsUnderWay (T.is_fit o.waiting.transaction) (T.end o.waiting.transaction) o.waiting.one };
+
+    fn poll(&mut self, cx: &mut Context<'_>) -> Poll<()> {
+        if self.polls == 0 {
+            return Poll::Ready(());
+        }
+        self.polls -= 1;
+        match self.waiting.poll(cx) {
+            Poll::Ready(done) => {
+                done.into_answered();
+                Poll::Ready(())
+            }
+            Poll::Pending => cx.yield_now(),
+        }
+    }
+}
+
+// Likewise one that borrows a caller for each look.
+#[derive(Drop)]
+struct InTurn<'a, T: Transact + Drop> {
+    waiting: ByTurns<'a, T>,
+    polls: u32,
+}
+
+impl<'a, T: Transact + Drop> Future for InTurn<'a, T> {
+    type Output = ();
+
+    ghost can_poll = { λ o. IsYetToEnd (T.is_fit o.waiting.transaction) (T.end o.waiting.transaction) o.waiting.callers.now o.waiting.is_over };
 
     fn poll(&mut self, cx: &mut Context<'_>) -> Poll<()> {
         if self.polls == 0 {
@@ -42,7 +73,9 @@ impl<'a, F: Future<Output = Committed<'a>>> Future for GivenUp<F> {
 
 const NEVER: LocOp = LocOp::Check(Loc(0), Rel::Eq, 7);
 
-fn opened(alloc: Global) -> Option<(Callers, Bells)> {
+fn opened(alloc: Global) -> Option<(Callers, Bells)>
+    ensures { IfSome result (λ t. 0 < t.0.store.locations) }
+{
     let (store, given) = Store::open(alloc, &[0], 2).ok()?;
     let callers = Callers::open(alloc, store, given).ok()?;
     Some((callers, Bells::new(alloc, 1).ok()?))
@@ -57,7 +90,7 @@ fn own<R: Wait + RandomSource + AllocGlobal>(rt: &R, alloc: Global, polls: u32) 
     let (callers, bells) = opened(alloc)?;
     let one = Borrowed::of(&callers, 0)?;
     let waiting = Committing::new(&bells, 0, one, NEVER);
-    block_on(rt, GivenUp { waiting, polls }).ok()?;
+    block_on(rt, WithOwn { waiting, polls }).ok()?;
     Some(are_back(callers, alloc))
 }
 
@@ -69,7 +102,7 @@ fn by_turns<R: Wait + RandomSource + AllocGlobal>(
 ) -> Option<bool> {
     let (callers, bells) = opened(alloc)?;
     let waiting = ByTurns::new(&callers, &bells, 0, NEVER);
-    block_on(rt, GivenUp { waiting, polls }).ok()?;
+    block_on(rt, InTurn { waiting, polls }).ok()?;
     Some(are_back(callers, alloc))
 }
 

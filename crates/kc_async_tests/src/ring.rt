@@ -1,6 +1,7 @@
 //! More tasks than callers, each of which waits for the one before it.
 
-ghost use Rattle.std.specs.Prelude.{◌≡◌, ◌<◌};
+ghost use Rattle.std.specs.Prelude.{◌≡◌, ◌<◌, ◌≤◌};
+ghost use Rattle.kc_loc.specs.Meaning.{LocIsFit, loc_end};
 
 use futures::executor::block_on;
 use kc_async::{Bells, ByTurns};
@@ -27,7 +28,8 @@ fn is_done<R: Wait + RandomSource + AllocGlobal>(
     number: usize,
     op: LocOp,
 ) -> bool
-    requires location { 0 < callers.now.store.locations }
+    requires fit { LocIsFit op }
+    requires within { loc_end op ≤ callers.now.store.locations }
 {
     let Ok(done) = block_on(rt, ByTurns::new(callers, bells, number, op)) else {
         return false;

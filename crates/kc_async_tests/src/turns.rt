@@ -1,6 +1,7 @@
 //! Two tasks that wait for each other.
 
-ghost use Rattle.std.specs.Prelude.{◌≡◌, ◌<◌};
+ghost use Rattle.std.specs.Prelude.{◌≡◌, ◌<◌, ◌≤◌};
+ghost use Rattle.kc_loc.specs.Meaning.{LocIsFit, loc_end};
 
 use futures::executor::block_on;
 use kc_async::{Bells, Committing};
@@ -25,7 +26,8 @@ fn is_done<R: Wait + RandomSource + AllocGlobal>(
     op: LocOp,
 ) -> bool
     requires some { 0 < callers.now.store.callers }
-    requires location { 0 < callers.now.store.locations }
+    requires fit { LocIsFit op }
+    requires within { loc_end op ≤ callers.now.store.locations }
 {
     let one = Borrowed::waiting(rt, callers, 0);
     let Ok(done) = block_on(rt, Committing::new(bells, 0, one, op)) else {
