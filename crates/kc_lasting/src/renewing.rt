@@ -3,7 +3,7 @@
 ghost use Rattle.std.specs.Prelude.{◌≡◌, ◌<◌, ◌≤◌, ◌+◌, ◌-◌, ◌^◌, ◌++◌, ◌≢◌, ℕ, List, Some, [], ◌∷◌, length, map, true, false, All, IfOk, IfSome};
 ghost use Rattle.kc_lasting.specs.Cuts.{IsCut};
 ghost use Rattle.kc_lasting.specs.Eras.{OpensOn, first_line, line_after, store_at};
-ghost use Rattle.kc_lasting.specs.Ends.{EndsEra, IsEraEnd};
+ghost use Rattle.kc_lasting.specs.Ends.{EndsEra, IsEraEnd, IsNewCaller};
 ghost use Rattle.kc_lasting.specs.Kept.{ErasKept, IsNextEra, MayBeFresh};
 ghost use Rattle.kc_lasting.specs.Opening.{IsFirstClient};
 ghost use Rattle.kc_lasting.specs.Settled.{IsSettled};
@@ -362,7 +362,7 @@ pub(crate) fn deal(
     locations: u32,
 ) -> Result<Vec<Fresh>, AllocError>
     requires of { All (λ c. c.of ≡ store) callers.items }
-    requires new { All (λ c. c.own ≡ []) callers.items }
+    requires new { All IsNewCaller callers.items }
     requires size { store.locations ≡ locations + 1 }
     requires few { locations < MOST_LOCATIONS }
     ensures of { IfOk result (λ v. All (IsFirstClient store) v.items) }
@@ -386,7 +386,7 @@ pub(crate) fn first_of(
     taken: u32,
 ) -> Result<(Roll<Line>, Eras, Vec<Fresh>), AllocError>
     requires of { All (λ c. c.of ≡ store) callers.items }
-    requires new { All (λ c. c.own ≡ []) callers.items }
+    requires new { All IsNewCaller callers.items }
     requires size { store.locations ≡ locations + 1 }
     requires few { locations < MOST_LOCATIONS }
     ensures kept { IfOk result (λ r. ErasKept r.0 r.1) }

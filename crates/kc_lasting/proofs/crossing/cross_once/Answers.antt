@@ -1,4 +1,5 @@
 use Rattle.std.proofs.Common.{◌∙◌, ap, refl}
+use Rattle.kc_lasting.proofs.GoingOver.{stays_on_there}
 use Rattle.kc_lasting.proofs.Moving.{looked_up, placed_so, settled_before, settled_behind}
 use Rattle.kc_store.specs.Views.{CallerView}
 use Rattle.kc_lasting.proofs.crossing.cross_once.Goals as goal
@@ -33,3 +34,6 @@ pub returns-in-Open-clause-placed : goal.returns-in-Open-clause-placed
 returns-in-Open-clause-placed g c =
     let p = looked_up c.args.shared.now.roll c.args.client.now.caller.of c.args.place.now c.renew_if_last.new.place c.look_up.new.place c.requires.placed c.renew_if_last.ensures.place.0 c.renew_if_last.ensures.place.1 c.look_up.ensures.of c.look_up.ensures.chain c.look_up.ensures.sees.0 c.look_up.ensures.era in
     placed_so c.args.shared.now.roll c.args.client.now.caller.of c.settle.new.client.caller.of c.look_up.new.place c.look_up.new.place p refl refl c.settle.ensures.of
+
+pub returns-then-eras-place-clause-crosses : goal.returns-then-eras-place-clause-crosses
+returns-then-eras-place-clause-crosses g c = stays_on_there c.args.client.now.caller c.look_again.new.self.caller c.look_again.new.self.seen.value c.look_again.ensures.seen c.look_again.ensures.learns

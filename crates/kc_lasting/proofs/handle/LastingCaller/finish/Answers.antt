@@ -10,4 +10,4 @@ returns-clause-own g c = λ _.
     let b = standing_of c.renew.new.self in
     let d = standing_of c.take_all_in.new.self in
     let is : c.renew.result ≡ true = search rules in
-    ends_on b.lines d.lines c.take_all_in.ensures.moves.lines a (ends_in b.lines a b (subst (λ (r : Bool). Renews r a b) is c.renew.ensures.renews) (begins_first b.lines))
+    ends_on b.lines d.lines c.take_all_in.ensures.moves.lines a (ends_in b.lines a b c.args.self.now.all (subst (λ (r : Bool). Renews r a b) is c.renew.ensures.renews) (begins_first b.lines))
