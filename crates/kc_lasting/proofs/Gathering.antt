@@ -29,7 +29,7 @@ PassedTo (suc k) [] ds = ds ≡ []
 PassedTo (suc k) (c ∷ cs) [] = ⊥
 PassedTo (suc k) (c ∷ cs) (d ∷ ds) = DoesNothing (standing_of c) (standing_of d) × PassedTo k cs ds
 
-all_same : (cs : List LastingCaller) → AllPass cs cs
+pub all_same : (cs : List LastingCaller) → AllPass cs cs
 all_same [] = tt
 all_same (c ∷ cs) = (inl (learns_same c.client.caller), all_same cs)
 
@@ -50,6 +50,11 @@ passed_one k [] ds x e lt p one = absurd (omega (arith, lt))
 passed_one zero (c ∷ cs) ds x e lt p one = subst (λ (l : List LastingCaller). PassedTo 1 (c ∷ cs) (set l 0 e)) (sym p) (one, refl)
 passed_one (suc k) (c ∷ cs) [] x e lt p one = absurd p
 passed_one (suc k) (c ∷ cs) (d ∷ ds) x e lt p one = (p.0, passed_one k cs ds x e (omega (arith, lt)) p.1 one)
+
+get_same : (l : List LastingCaller) (j : ℕ) (u v : LastingCaller) → j < length l → get_or l j u ≡ get_or l j v
+get_same [] j u v b = absurd (omega (arith, b))
+get_same (a ∷ l) zero u v b = refl
+get_same (a ∷ l) (suc j) u v b = get_same l j u v (omega (arith, b))
 
 -- so many of them have been taken in
 pub record HasTaken (c d : HandleView) (k : ℕ) (olds nows : List LastingCaller) : Type 0 where
@@ -73,8 +78,3 @@ taken_more c d e k olds nows x o lt h one ends moves = record {
     at : (i : ℕ) (y : LastingCaller) → (i < k) ⊎ (i ≡ k) → EndsIn e.lines (standing_of (get_or olds i y))
     at i y (inl before) = ends_on d.lines e.lines moves.lines (standing_of (get_or olds i y)) (h.ended i y before)
     at i y (inr is) = subst (λ (z : LastingCaller). EndsIn e.lines (standing_of z)) (here_as_it_was k olds nows x h.passed ∙ get_same olds k x y lt ∙ ap (λ (j : ℕ). get_or olds j y) (sym is)) ends
-
-    get_same : (l : List LastingCaller) (j : ℕ) (u v : LastingCaller) → j < length l → get_or l j u ≡ get_or l j v
-    get_same [] j u v b = absurd (omega (arith, b))
-    get_same (a ∷ l) zero u v b = refl
-    get_same (a ∷ l) (suc j) u v b = get_same l j u v (omega (arith, b))

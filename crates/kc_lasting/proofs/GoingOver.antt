@@ -113,6 +113,7 @@ module _ (p : List Entry → Type 0) (s before : CallerView) (b c d t : CallerVi
   goes_back g = over_back p s b c d t l g
 
   before_back : (g : GoesOver p before c d t) × CountsIn g.part before.own c f → (g : GoesOver p s b d t) × CountsIn g.part s.own b f
+  unfolding over_back
   before_back x =
       let y : (g : GoesOver p s c d t) × CountsIn g.part s.own c f = subst (λ (v : CallerView). (g : GoesOver p v c d t) × CountsIn g.part v.own c f) same x in
       (goes_back y.0, counts_back y.0.part s.own f b c l y.1)
@@ -121,6 +122,7 @@ module _ (p : List Entry → Type 0) (s before : CallerView) (b c d t : CallerVi
   before_there x = inr (before_back x)
 
   pub behind_there : CutAway p before c f d t → CutAway p s b f d t
+  unfolding over_back
   behind_there x =
       let y : CutAway p s c f d t = subst (λ (v : CallerView). CutAway p v c f d t) same x in
       (goes_back y.0, away_back y.0.part s.own f b c l y.1)

@@ -1,5 +1,5 @@
 use Rattle.std.proofs.Common.{inl, subst}
-use Rattle.kc_lasting.proofs.GoingOver.{before_there, behind_there, judged_all, on_back}
+use Rattle.kc_lasting.proofs.GoingOver.{before_there, behind_there, judged_all, on_back, stays_on_there}
 use Rattle.kc_lasting.specs.Eras.{IsEnded}
 use Rattle.kc_lasting.specs.Told.{GoesOver}
 use Rattle.kc_store.specs.Views.{CallerView}
@@ -36,3 +36,6 @@ returns-in-Behind-cross-clause-judged g c =
     let b = c.args.client.now in
     let d = c.cross-2.new.client in
     behind_there (IsEnded c.cross-2.new.place.page.seen c.args.place.now.era) b.seen.value c.is_open.new.self.seen.value b.caller c.is_open.new.self.caller d.caller d.seen.value c.args.footprint.now c.is_open.ensures.learns (c.is_open.ensures.stays c.if-is_open.false) c.in-Behind-cross.ensures.crosses
+
+pub returns-then-not-worn-clause-judged : goal.returns-then-not-worn-clause-judged
+returns-then-not-worn-clause-judged g c = inl (stays_on_there c.args.client.now.caller c.is_open.new.self.caller c.is_open.new.self.seen.value (c.is_open.ensures.seen c.if-is_open.true) c.is_open.ensures.learns).0
