@@ -59,8 +59,8 @@ module _ (z : StoreView) (c w : CallerView) (n : NoteView) (hist : List Entry) (
 pub never_open : (part : List Entry) (a : Side) (c s : CallerView) (f : Footprint) (d t : CallerView) → IsLearned part a c s f d t → a ≡ side.Open → ⊥
 never_open part a c s f d t l is = subst (λ (x : Side). IsLearned part x c s f d t) is l
 
-pub settled_so : (p : List Entry → Type 0) (part : List Entry) → p part → (a : Side) (c s : CallerView) (f : Footprint) (d t : CallerView) → IsLearned part a c s f d t → IsSettled p a c s f d t
-settled_so p part known side.Open c s f d t never = absurd never
-settled_so p part known side.Before c s f d t l = (part, known, l)
-settled_so p part known side.Behind c s f d t l = (part, known, l)
-settled_so p part known side.Unknown c s f d t l = l
+pub settled_so : (p : List Entry → Type 0) (history : List Entry) → p history → (a : Side) (c s : CallerView) (f : Footprint) (d t : CallerView) → IsLearned history a c s f d t → IsSettled p a c s f d t
+settled_so p history known side.Open c s f d t never = absurd never
+settled_so p history known side.Before c s f d t l = (history, known, l)
+settled_so p history known side.Behind c s f d t l = (history, known, l)
+settled_so p history known side.Unknown c s f d t l = l

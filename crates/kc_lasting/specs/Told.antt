@@ -135,7 +135,6 @@ abbrev pub AttemptsSo : Meaning → Attempt → Tried → HandleView → Footpri
 AttemptsSo m (attempt.Came fate) t c f d = ToldSo m (verdict_as fate t) c f d
 AttemptsSo m attempt.Renewed t c f d = ToldInVain m c f d
 
-
 -- calls of which nothing came, one after another: they put nothing, or were cut away
 pub data AllInVain (m : Meaning) (c : HandleView) : HandleView → Type 0 where
   none : AllInVain m c c

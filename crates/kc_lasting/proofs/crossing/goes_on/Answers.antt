@@ -1,7 +1,5 @@
-use Rattle.std.proofs.Common.{ap}
 use Rattle.kc_lasting.proofs.GoingOver.{passes_back}
 use Rattle.kc_lasting.specs.Eras.{IsEnded}
-use Rattle.kc_store.specs.Views.{CallerView}
 use Rattle.kc_lasting.proofs.crossing.goes_on.Goals as goal
 
 pub returns-clause-over : goal.returns-clause-over

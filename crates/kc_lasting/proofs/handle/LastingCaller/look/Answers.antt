@@ -1,9 +1,8 @@
 use Rattle.std.specs.Arc.{arc_value}
-use Rattle.std.proofs.Common.{◌∙◌, ap}
+use Rattle.std.proofs.Common.{ap}
 use Rattle.kc_lasting.proofs.Telling.{looks_so, passes_behind}
 use Rattle.kc_lasting.specs.Told.{HandleView, standing_of}
 use Rattle.kc_lasting.specs.declared.shared.Place.{Place}
-use Rattle.kc_store.specs.Views.{CallerView}
 use Rattle.kc_lasting.proofs.handle.LastingCaller.look.Goals as goal
 
 pub returns-then-goes_on-clause-looks : goal.returns-then-goes_on-clause-looks

@@ -1,5 +1,4 @@
 use Rattle.kc_lasting.proofs.GoingOver.{on_all}
-use Rattle.kc_store.specs.Views.{CallerView}
 use Rattle.kc_lasting.proofs.handle.LastingCaller.renew.Goals as goal
 
 pub returns-in-Stays-clause-renews : goal.returns-in-Stays-clause-renews

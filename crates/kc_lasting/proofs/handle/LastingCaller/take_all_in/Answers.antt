@@ -1,4 +1,4 @@
-use Rattle.std.proofs.Common.{◌≡◌, ◌+◌, ◌<◌, ◌∙◌, List, add-one, ap, get_or, length, rules, slice_set, subst, suc, sym, ℕ}
+use Rattle.std.proofs.Common.{◌<◌, ◌∙◌, add-one, ap, get_or, length, rules, slice_set, subst, suc, sym, ℕ}
 use Rattle.kc_lasting.proofs.Gathering.{HasTaken, all_pass, here_as_it_was, passed_one, taken_first, taken_more}
 use Rattle.kc_lasting.specs.Told.{DoesNothing, standing_of}
 use Rattle.kc_lasting.specs.declared.handle.LastingCaller.{LastingCaller}

@@ -1,4 +1,4 @@
-use Rattle.std.proofs.Common.{◌≡◌, ◌∙◌, ap, inr, true, rules, subst}
+use Rattle.std.proofs.Common.{◌≡◌, ◌∙◌, ap, true, rules, subst}
 use Rattle.kc_lasting.proofs.Moving.{ends_in}
 use Rattle.kc_lasting.specs.Told.{Renews, standing_of}
 use Rattle.kc_lasting.specs.declared.line.Line.{Line}

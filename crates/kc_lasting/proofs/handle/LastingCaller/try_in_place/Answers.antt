@@ -1,8 +1,6 @@
 use Rattle.std.specs.Arc.{arc_value}
-use Rattle.std.proofs.Common.{◌∙◌, ap}
 use Rattle.kc_lasting.proofs.Telling.{told_in_vain, told_so}
 use Rattle.kc_lasting.specs.Told.{HandleView, standing_of}
-use Rattle.kc_store.specs.Views.{CallerView}
 use Rattle.kc_store.specs.Verdicts.{verdict_as}
 use Rattle.kc_xt.specs.Commit.{tried_of}
 use Rattle.kc_xt.specs.Meaning.{limited}

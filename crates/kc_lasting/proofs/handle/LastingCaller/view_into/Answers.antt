@@ -1,7 +1,6 @@
 use Rattle.std.proofs.Common.{◌≡◌, ◌∙◌, None, rules, refl, subst}
 use Rattle.std.specs.Prelude.{Option}
 use Rattle.kc_lasting.proofs.Moving.{moves_first, moves_on}
-use Rattle.kc_lasting.proofs.Telling.{commits_there, views_there}
 use Rattle.kc_lasting.specs.Told.{GlimpsesOnce, passed, standing_of, still}
 use Rattle.kc_store.specs.declared.viewing.Glimpse.{Glimpse}
 use Rattle.kc_xt.specs.Meaning.{limited}
