@@ -194,7 +194,7 @@ fn renew_if_last<R: Wait>(rt: &R, shared: &Shared, eras: &mut Eras, place: &mut 
         return;
     }
     if eras
-        .renew(rt, &shared.roll, shared.alloc, shared.callers)
+        .renew(rt, &shared.roll, shared.alloc)
         .is_err()
     {
         place.left = AGAIN_AFTER;

@@ -15,7 +15,6 @@ pub struct Shared {
     pub(crate) alloc: Global,
     pub(crate) eras: Holder<Eras>,
     pub(crate) roll: Roll<Line>,
-    pub(crate) callers: u32,
     ghost tag: { eras.tag ≡ roll },
 }
 
@@ -38,7 +37,6 @@ impl Shared {
         alloc: Global,
         eras: Eras,
         roll: Roll<Line>,
-        callers: u32,
     ) -> Result<Shared, AllocError>
         requires { ErasKept roll eras }
         ensures { IfOk result (λ s. s.roll ≡ roll) }
@@ -48,7 +46,6 @@ impl Shared {
             alloc,
             eras,
             roll,
-            callers,
         })
     }
 }
