@@ -33,19 +33,11 @@ pub struct Place {
 }
 
 impl Shared {
-    pub(crate) fn of(
-        alloc: Global,
-        eras: Eras,
-        roll: Roll<Line>,
-    ) -> Result<Shared, AllocError>
+    pub(crate) fn of(alloc: Global, eras: Eras, roll: Roll<Line>) -> Result<Shared, AllocError>
         requires { ErasKept roll eras }
         ensures { IfOk result (λ s. s.roll ≡ roll) }
     {
         let eras = Holder::new(alloc, eras, &roll)?;
-        Ok(Shared {
-            alloc,
-            eras,
-            roll,
-        })
+        Ok(Shared { alloc, eras, roll })
     }
 }
