@@ -1,7 +1,8 @@
 -- Callers that are dealt, each with its share of an era.
-use Rattle.std.proofs.Common.{◌≡◌, ℕ, zero, suc, ◌+◌, List, [], length, ◌∙◌, ap, sym, arith, refl}
+use Rattle.std.proofs.Common.{◌≡◌, ℕ, zero, suc, ◌+◌, List, length, ◌∙◌, ap, sym, arith, refl}
 use Rattle.std.specs.Prelude.{All}
 use Rattle.std.proofs.lemmas.List.Elements.{All-cons}
+use Rattle.kc_lasting.specs.Ends.{IsNewCaller}
 use Rattle.kc_lasting.specs.Opening.{IsFirstClient}
 use Rattle.kc_lasting.specs.declared.client.Fresh.{Fresh}
 use Rattle.kc_store.specs.Views.{CallerView, StoreView, opened_caller, opened_callers}
@@ -11,15 +12,15 @@ pub record Deals (z store : StoreView) (all : List CallerView) (given : List Fre
   pub count : length given + length rest ≡ length all
   pub given_are : All (IsFirstClient z) given
   pub rest_are : All (λ (c : CallerView). c.of ≡ z) rest
-  pub new : All (λ (c : CallerView). c.own ≡ []) rest
+  pub new : All IsNewCaller rest
 
 pub all_opened : (z : StoreView) (k n : ℕ) → All (λ (c : CallerView). c.of ≡ z) (opened_callers z k n)
 all_opened z k zero = λ i d lt. absurd (omega (arith, lt))
 all_opened z k (suc n) = All-cons (λ (c : CallerView). c.of ≡ z) (opened_caller z k) (opened_callers z (suc k) n) refl (all_opened z (suc k) n)
 
-pub all_new : (z : StoreView) (k n : ℕ) → All (λ (c : CallerView). c.own ≡ []) (opened_callers z k n)
+pub all_new : (z : StoreView) (k n : ℕ) → All IsNewCaller (opened_callers z k n)
 all_new z k zero = λ i d lt. absurd (omega (arith, lt))
-all_new z k (suc n) = All-cons (λ (c : CallerView). c.own ≡ []) (opened_caller z k) (opened_callers z (suc k) n) refl (all_new z (suc k) n)
+all_new z k (suc n) = All-cons IsNewCaller (opened_caller z k) (opened_callers z (suc k) n) (record { own = refl; past = refl }) (all_new z (suc k) n)
 
 pub all_of : (z y : StoreView) → y ≡ z → (xs : List Fresh) → All (IsFirstClient z) xs → All (λ (x : Fresh). x.client.caller.of ≡ y) xs
 all_of z y e xs all = λ i d lt. (all i d lt).of ∙ sym e

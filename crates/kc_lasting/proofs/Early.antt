@@ -1,13 +1,11 @@
 -- Who saw that a location had not been put yet knew no more than who knows of the put.
 use Rattle.std.proofs.Common.{◌≡◌, ◌<◌, ◌≤◌, ◌⊎◌, inl, inr, ℕ, ◌++◌, List, [], ◌∷◌, refl, sym, ◌∙◌, arith, subst}
 use Rattle.kc_hang.proofs.kc_machine_traces.Joins.{honest_parts, made_parts}
-use Rattle.kc_hang.proofs.kc_table_views.Knowing.{grows_on, versions_on}
+use Rattle.kc_hang.proofs.kc_table_views.Knowing.{versions_on}
 use Rattle.kc_hang.specs.kc_machine.Machine.{Opening}
 use Rattle.kc_hang.specs.kc_table_views.Known.{IsMeant, IsPrefix, known}
 use Rattle.kc_machine_steps.specs.declared.task.Event.{Event}
-use Rattle.kc_store.proofs.Remembering.{entries_within}
-use Rattle.kc_store.specs.Knows.{IsWithin}
-use Rattle.kc_store.specs.kc_machine_traces.Histories.{Grows, ending_store, entries}
+use Rattle.kc_store.specs.kc_machine_traces.Histories.{ending_store}
 use Rattle.kc_store.specs.kc_machine_traces.Traces.{first_store}
 
 -- ---- two fronts of one schedule
@@ -24,21 +22,18 @@ fronts (a ∷ xs) (b ∷ ys) r s e = go (fronts xs ys r s cc)
     go (inl (rest, p)) = let f = first in inl (rest, cc)
     go (inr (rest, p)) = let f = first in inr (rest, cc)
 
-meant_front : (o : Opening) (xs ys : List Event) → IsMeant o (xs ++ ys) → IsMeant o xs
+pub meant_front : (o : Opening) (xs ys : List Event) → IsMeant o (xs ++ ys) → IsMeant o xs
 meant_front o xs ys m = ((made_parts o xs ys m.0).0, (honest_parts o xs ys m.1).0)
 
 -- a and b are fronts of one schedule, and location g has a lower version behind a than behind b: so a is the shorter one
-pub stands_early : (o : Opening) (a b es : List Event) (g : ℕ) → IsMeant o es → IsPrefix a es → IsPrefix b es → (ending_store (first_store o) (known o a) g).version < (ending_store (first_store o) (known o b) g).version → IsWithin (entries (known o a)) (entries (known o b))
-stands_early o a b es g m (r, p) (s, q) low = go (fronts a b r s (sym p ∙ q))
+pub is_shorter : (o : Opening) (a b es : List Event) (g : ℕ) → IsMeant o es → IsPrefix a es → IsPrefix b es → (ending_store (first_store o) (known o a) g).version < (ending_store (first_store o) (known o b) g).version → IsPrefix a b
+is_shorter o a b es g m (r, p) (s, q) low = go (fronts a b r s (sym p ∙ q))
   where
     meant_a : IsMeant o a
     meant_a = meant_front o a r (subst (IsMeant o) p m)
 
-    meant_b : IsMeant o b
-    meant_b = meant_front o b s (subst (IsMeant o) q m)
-
-    go : IsPrefix a b ⊎ IsPrefix b a → IsWithin (entries (known o a)) (entries (known o b))
-    go (inl (more, e)) = entries_within (subst (λ (x : List Event). Grows (known o a) (known o x)) (sym e) (grows_on o a more (subst (IsMeant o) e meant_b))).0
+    go : IsPrefix a b ⊎ IsPrefix b a → IsPrefix a b
+    go (inl x) = x
     go (inr (more, e)) =
         let up : (ending_store (first_store o) (known o b) g).version ≤ (ending_store (first_store o) (known o a) g).version = subst (λ (x : List Event). (ending_store (first_store o) (known o b) g).version ≤ (ending_store (first_store o) (known o x) g).version) (sym e) (versions_on o b more (subst (IsMeant o) e meant_a) g) in
         absurd (omega (arith, low, up))

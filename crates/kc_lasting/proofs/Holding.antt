@@ -8,8 +8,8 @@ use Rattle.kc_hang.proofs.kc_table_laws.Keeping.{keeps_same, keeps_then}
 use Rattle.kc_store.specs.Views.{CallerView, caller_view}
 use Rattle.kc_store.specs.kc_table_laws.Tasks.{KeepsKnown}
 
-pub seen_new : (g flag : ℕ) (c : CallerView) → c ≡ caller_view c.worn c.seat → c.own ≡ [] → HasSeen g flag c c
-seen_new g flag c shows own = record { keeps = keeps_same c.seat; shows = shows; early = inl own }
+pub seen_new : (g flag : ℕ) (c : CallerView) → c ≡ caller_view c.worn c.seat → c.seat.past ≡ [] → HasSeen g flag c c
+seen_new g flag c shows past = record { keeps = keeps_same c.seat; shows = shows; early = inl past }
 
 pub seen_on : (g flag : ℕ) (s c d : CallerView) → KeepsKnown c.seat d.seat → ∥ HasSeen g flag s c ∥₁ → ∥ HasSeen g flag s d ∥₁
 seen_on g flag s c d k has = ∥∥₁_map has (λ h. record { keeps = keeps_then s.seat c.seat d.seat h.keeps k; shows = h.shows; early = h.early })

@@ -3,7 +3,7 @@ use Rattle.std.proofs.Common.{◌≡◌, ◌≢◌, ◌<◌, ◌++◌, ℕ, suc,
 use Rattle.std.proofs.Math.Logic.{∥∥₁_map}
 use Rattle.std.specs.Prelude.{Contains}
 use Rattle.kc_hang.specs.kc_table_views.Known.{IsPrefix}
-use Rattle.kc_lasting.proofs.Settled.{Learned, cut_goes_on, early, is_before, is_behind, part}
+use Rattle.kc_lasting.proofs.Settled.{Learned, cut_goes_on, is_before, is_behind, part, stands_behind}
 use Rattle.kc_lasting.specs.Ends.{HasSeen, IsEraEnd}
 use Rattle.kc_lasting.specs.Settled.{CountsIn, IsCutAway, IsLearned, IsSettled, IsSideOf, PutsAbove, PutsBelow, StandsBefore, StaysAsSeen}
 use Rattle.kc_lasting.specs.declared.settling.Side.{Side}
@@ -38,12 +38,8 @@ module _ (z : StoreView) (c w : CallerView) (n : NoteView) (hist : List Entry) (
   }
 
   module _ (s : CallerView) (g flag k : ℕ) (f : Footprint) (has : ∥ HasSeen g flag s c ∥₁) (within : g < length versions) (high : flag < get_or versions g k) where
-    stood : StandsBefore z s.own (part z c w n hist versions lr)
-    stood = record {
-      cells = lr.note.cut.cells;
-      cut = lr.note.cut.cut;
-      all = ∥∥₁_map has (λ h. early z c w n hist versions lr s g flag k h (omega (arith, within, len)) high);
-    }
+    stood : ∥ StandsBefore z c.number c.own s (part z c w n hist versions lr) ∥₁
+    stood = ∥∥₁_map has (λ h. stands_behind z c w n hist versions lr s g flag k h (omega (arith, within, len)) high)
 
     counts : PutsBelow f versions → CountsIn (part z c w n hist versions lr) s.own c f
     counts p j own = ∣ is_before z c w n hist versions lr (entry_of c.number j f) p.at 0 p.put (subst (λ (es : List Entry). Contains es (entry_of c.number j f)) (sym own) (last_in s.own (entry_of c.number j f))) p.puts (let a = p.within in omega (arith, a, len)) p.below ∣₁
@@ -56,15 +52,15 @@ module _ (z : StoreView) (c w : CallerView) (n : NoteView) (hist : List Entry) (
 
     pub learned : (a : Side) (t : CallerView) → c.of ≡ z → IsSideOf a f versions → StaysAsSeen c s w t → IsLearned hist a c s f w t
     learned side.Open t of never stays = never
-    learned side.Before t of p stays = (stays, here (StandsBefore c.of s.own) (subst (λ (y : StoreView). StandsBefore y s.own (part z c w n hist versions lr)) (sym of) stood), here (λ (es : List Entry). CountsIn es s.own c f) (counts p))
-    learned side.Behind t of p stays = (stays, here (StandsBefore c.of s.own) (subst (λ (y : StoreView). StandsBefore y s.own (part z c w n hist versions lr)) (sym of) stood), here (λ (es : List Entry). IsCutAway es s.own c f) (away p))
+    learned side.Before t of p stays = (stays, here (λ (es : List Entry). ∥ StandsBefore c.of c.number c.own s es ∥₁) (subst (λ (y : StoreView). ∥ StandsBefore y c.number c.own s (part z c w n hist versions lr) ∥₁) (sym of) stood), here (λ (es : List Entry). CountsIn es s.own c f) (counts p))
+    learned side.Behind t of p stays = (stays, here (λ (es : List Entry). ∥ StandsBefore c.of c.number c.own s es ∥₁) (subst (λ (y : StoreView). ∥ StandsBefore y c.number c.own s (part z c w n hist versions lr) ∥₁) (sym of) stood), here (λ (es : List Entry). IsCutAway es s.own c f) (away p))
     learned side.Unknown t of p stays = stays
 
 pub never_open : (part : List Entry) (a : Side) (c s : CallerView) (f : Footprint) (d t : CallerView) → IsLearned part a c s f d t → a ≡ side.Open → ⊥
 never_open part a c s f d t l is = subst (λ (x : Side). IsLearned part x c s f d t) is l
 
-pub settled_so : (p : List Entry → Type 0) (part : List Entry) → p part → (a : Side) (c s : CallerView) (f : Footprint) (d t : CallerView) → IsLearned part a c s f d t → IsSettled p a c s f d t
-settled_so p part known side.Open c s f d t never = absurd never
-settled_so p part known side.Before c s f d t l = (part, known, l)
-settled_so p part known side.Behind c s f d t l = (part, known, l)
-settled_so p part known side.Unknown c s f d t l = l
+pub settled_so : (p : List Entry → Type 0) (history : List Entry) → p history → (a : Side) (c s : CallerView) (f : Footprint) (d t : CallerView) → IsLearned history a c s f d t → IsSettled p a c s f d t
+settled_so p history known side.Open c s f d t never = absurd never
+settled_so p history known side.Before c s f d t l = (history, known, l)
+settled_so p history known side.Behind c s f d t l = (history, known, l)
+settled_so p history known side.Unknown c s f d t l = l

@@ -1,34 +1,43 @@
 -- On which side of a cut the last entry of a caller stands that has learned the cut; and that all before stands there.
-use Rattle.std.proofs.Common.{◌≡◌, ◌<◌, ◌≤◌, ◌==◌, ◌⊎◌, inl, inr, Bool, true, false, cond, ℕ, zero, suc, ◌++◌, List, [], ◌∷◌, map, get_or, length, refl, sym, ap, ◌∙◌, arith, subst}
+use Rattle.std.proofs.Common.{◌≡◌, ◌<◌, ◌≤◌, ◌==◌, ◌⊎◌, inl, inr, Bool, true, false, cond, take, ℕ, zero, suc, ◌++◌, List, [], ◌∷◌, map, get_or, length, refl, sym, ap, ◌∙◌, arith, subst}
 use Rattle.std.proofs.lemmas.List.{append_assoc}
 use Rattle.std.specs.Prelude.{Contains}
-use Rattle.kc_hang.proofs.kc_table_views.Knowing.{grows_on, legal_known}
+use Rattle.kc_hang.proofs.kc_table_laws.Confirming.{front_later}
+use Rattle.kc_hang.proofs.kc_table_views.Knowing.{grows_on, known_on, legal_known}
 use Rattle.kc_hang.specs.kc_machine.Machine.{Opening}
 use Rattle.kc_hang.specs.kc_table_moves.Origins.{opening_of}
 use Rattle.kc_hang.specs.kc_table_moves.Views.{Joined, TableView}
 use Rattle.kc_hang.specs.kc_table_views.Known.{IsMeant, IsPrefix, known}
 use Rattle.kc_hang.proofs.kc_table_laws.Keeping.{keeps_then}
 use Rattle.kc_model.specs.Legal.{IsLegal}
-use Rattle.kc_lasting.proofs.Early.{stands_early}
+use Rattle.kc_lasting.proofs.Early.{is_shorter, meant_front}
+use Rattle.kc_lasting.proofs.Made.{front_entries}
 use Rattle.kc_lasting.proofs.Putting.{all_put}
 use Rattle.kc_lasting.proofs.Sides.{all_at, is_in_part, stands_before, within_contains}
-use Rattle.kc_lasting.specs.Cuts.{left_by, standing_at}
+use Rattle.kc_lasting.specs.Cuts.{IsKnownAt, left_by, standing_at}
 use Rattle.kc_lasting.specs.Ends.{HasSeen, IsCutAt, IsEraEnd}
+use Rattle.kc_lasting.specs.Settled.{StandsBefore, entries_known}
 use Rattle.kc_lasting.specs.Sides.{IsCutOff, PutWhatTheyRead, PutsThere}
 use Rattle.kc_machine_steps.specs.declared.task.Event.{Event}
 use Rattle.kc_model.proofs.Stores.{Contains-first, Contains-later}
 use Rattle.kc_model.specs.Footprint.{PutsWhatItReads}
 use Rattle.kc_model.specs.declared.footprint.Entry.{Entry}
+use Rattle.kc_model.specs.Store.{Store}
+use Rattle.kc_model.specs.declared.footprint.Footprint.{Footprint}
 use Rattle.kc_model.specs.declared.footprint.Put.{Put}
 use Rattle.kc_model.specs.declared.footprint.Seen.{Seen}
 use Rattle.kc_model.specs.declared.plain_store.Cell.{Cell}
 use Rattle.kc_store.proofs.Among.{first_or_later, nothing_in}
+use Rattle.kc_store.proofs.Glancing.{front_of_entries}
 use Rattle.kc_store.proofs.Remembering.{entries_by, entries_within, within_on}
 use Rattle.kc_store.specs.Knows.{IsWithin, OnlyLearns, entries_of, none, here, later}
+use Rattle.kc_store.specs.Viewing.{FrontMakes, StandsAtOnce}
 use Rattle.kc_store.specs.Views.{CallerView, NoteView, StoreView, caller_view, store_opening, store_view}
-use Rattle.kc_store.specs.kc_machine_traces.Histories.{Grows, History, Placed, ending_store, entries, made, seen_as_cell}
+use Rattle.kc_store.specs.kc_machine_traces.Histories.{Grows, History, IsKnown, Placed, ending_store, entries, made, seen_as_cell}
 use Rattle.kc_store.specs.kc_machine_traces.Traces.{first_store}
+use Rattle.kc_store.specs.kc_table_laws.Tasks.{KeepsKnown}
 use Rattle.kc_store.specs.kc_table_moves.Views.{knows, opening_at_seat}
+use Rattle.kc_store.specs.kc_machine_history.Confirmed.{HasFront}
 
 -- ---- lists
 
@@ -83,6 +92,7 @@ pub record Learned (z : StoreView) (c w : CallerView) (n : NoteView) (hist : Lis
   pub before : c ≡ caller_view c.worn c.seat
   pub behind : w ≡ caller_view w.worn w.seat
   pub own : c.own ≡ entries_of c.number c.known
+  pub own_behind : w.own ≡ entries_of w.number w.known
   pub note : IsEraEnd z n hist versions
   pub joined : Joined c.seat n.note w.seat
   pub learns : OnlyLearns c w
@@ -113,35 +123,6 @@ module _ (z : StoreView) (c w : CallerView) (n : NoteView) (hist : List Entry) (
   whole_is : w.known ≡ entries (known o w.seat.past)
   whole_is = ap (λ (x : CallerView). x.known) lr.behind ∙ ap (λ (t : TableView). entries (known (opening_of t.origin) w.seat.past)) lr.joined.learns.of
 
-  -- what was known where location g stood lower than at the cut
-  pub early : (s : CallerView) (g flag k : ℕ) → HasSeen g flag s c → g < length lr.note.cut.cells → flag < get_or versions g k → IsWithin s.own part
-  early s g flag k has lt high = go has.early
-    where
-      at_s : (standing_at s.seat g).version ≡ (ending_store (first_store o) (known o s.seat.past) g).version
-      at_s = ap (λ (t : TableView). (ending_store (first_store (opening_of t.origin)) (known (opening_of t.origin) s.seat.past) g).version) (sym has.keeps.of)
-
-      at_cut : (ending_store (first_store o) (known o lr.note.past) g).version ≡ get_or versions g k
-      at_cut = sym (ap (λ (y : StoreView). (made (store_opening y) part g).version) same ∙ ap (λ (es : List Entry). (made (first_store o) es g).version) part_is) ∙ version_cut z part versions g k lr.note.cut lt
-
-      own_s : s.own ≡ entries_of s.seat.number (entries (knows s.seat))
-      own_s = ap (λ (x : CallerView). x.own) has.shows ∙ sym (entries_by s.seat.number (knows s.seat))
-
-      known_s : entries (knows s.seat) ≡ entries (known o s.seat.past)
-      known_s = ap (λ (t : TableView). entries (known (opening_of t.origin) s.seat.past)) (sym has.keeps.of)
-
-      own_in : IsWithin s.own (entries (known o s.seat.past))
-      own_in = subst (λ (es : List Entry). IsWithin s.own es) known_s (subst (λ (es : List Entry). IsWithin es (entries (knows s.seat))) (sym own_s) (own_within s.seat.number (entries (knows s.seat))))
-
-      goes_on : IsPrefix s.seat.past w.seat.past
-      goes_on = (keeps_then s.seat c.seat w.seat has.keeps lr.learns.remembers.keeps).past
-
-      go : (s.own ≡ []) ⊎ ((standing_at s.seat g).version ≤ flag) → IsWithin s.own part
-      go (inl none_own) = subst (λ (es : List Entry). IsWithin es part) (sym none_own) none
-      go (inr low) =
-          let a = at_s in
-          let b = at_cut in
-          within_on own_in (subst (λ (es : List Entry). IsWithin (entries (known o s.seat.past)) es) (sym part_is) (stands_early o s.seat.past lr.note.past w.seat.past g meant goes_on cut_goes_on (omega (arith, low, high, a, b))))
-
   abbrev IsLegalFrom : StoreView → List Entry → Type 0
   IsLegalFrom y es = IsLegal (store_opening y) es (made (store_opening y) es)
 
@@ -157,6 +138,68 @@ module _ (z : StoreView) (c w : CallerView) (n : NoteView) (hist : List Entry) (
     within = subst (λ (es : List Entry). IsWithin es w.known) (sym part_is) (subst (λ (es : List Entry). IsWithin (entries (known o lr.note.past)) es) (sym whole_is) grown);
     made = subst PutWhatTheyRead (sym whole_is) (put_what_they_read (known o w.seat.past) (all_put o w.seat.past meant.0));
   }
+
+  no_other : IsWithin (entries_of c.number part) c.own
+  no_other =
+      let w_own : entries_of c.number w.known ≡ c.own = ap (λ (j : ℕ). entries_of j w.known) (sym lr.learns.remembers.number) ∙ sym lr.own_behind ∙ lr.learns.own in
+      subst (IsWithin (entries_of c.number part)) w_own (own_grows c.number cut_off.within)
+
+  -- what was known where location g stood lower than at the cut
+  module _ (s : CallerView) (g flag k : ℕ) (has : HasSeen g flag s c) (lt : g < length lr.note.cut.cells) (high : flag < get_or versions g k) where
+    at_s : (standing_at s.seat g).version ≡ (ending_store (first_store o) (known o s.seat.past) g).version
+    at_s = ap (λ (t : TableView). (ending_store (first_store (opening_of t.origin)) (known (opening_of t.origin) s.seat.past) g).version) (sym has.keeps.of)
+
+    at_cut : (ending_store (first_store o) (known o lr.note.past) g).version ≡ get_or versions g k
+    at_cut = sym (ap (λ (y : StoreView). (made (store_opening y) part g).version) same ∙ ap (λ (es : List Entry). (made (first_store o) es g).version) part_is) ∙ version_cut z part versions g k lr.note.cut lt
+
+    goes_on : IsPrefix s.seat.past w.seat.past
+    goes_on = (keeps_then s.seat c.seat w.seat has.keeps lr.learns.remembers.keeps).past
+
+    shorter : IsPrefix s.seat.past lr.note.past
+    shorter = go has.early
+      where
+        go : (s.seat.past ≡ []) ⊎ ((standing_at s.seat g).version ≤ flag) → IsPrefix s.seat.past lr.note.past
+        go (inl nothing) = subst (λ (es : List Event). IsPrefix es lr.note.past) (sym nothing) (lr.note.past, refl)
+        go (inr low) = let a = at_s in let b = at_cut in is_shorter o s.seat.past lr.note.past w.seat.past g meant goes_on cut_goes_on (omega (arith, low, high, a, b))
+
+    meant_cut : IsMeant o lr.note.past
+    meant_cut = let (rest, is) = cut_goes_on in meant_front o lr.note.past rest (subst (IsMeant o) is meant)
+
+    -- what holds of what was known at the cut holds of the history
+    at_part : (q : Store → List Entry → Type 0) → q (first_store o) (entries (known o lr.note.past)) → q (store_opening z) part
+    at_part q x = subst (λ (y : StoreView). q (store_opening y) (entries (known (opening_of y.table.origin) lr.note.past))) (sym same) x
+
+    known_s : entries_known s.seat ≡ entries (known o s.seat.past)
+    known_s = ap (λ (t : TableView). entries (known (opening_of t.origin) s.seat.past)) (sym has.keeps.of)
+
+    known_there : IsWithin (entries_known s.seat) part
+    known_there =
+        let (more, e) = shorter in
+        at_part (λ (i : Store) (es : List Entry). IsWithin (entries_known s.seat) es) (subst (λ (es : List Entry). IsWithin es (entries (known o lr.note.past))) (sym known_s) (entries_within (subst (λ (x : List Event). Grows (known o s.seat.past) (known o x)) (sym e) (grows_on o s.seat.past more (subst (IsMeant o) e meant_cut))).0))
+
+    own_there : IsWithin s.own (entries_of c.number part)
+    own_there =
+        let own_s : s.own ≡ entries_of s.seat.number (entries_known s.seat) = ap (λ (x : CallerView). x.own) has.shows ∙ sym (entries_by s.seat.number (knows s.seat)) in
+        let number : s.seat.number ≡ c.number = sym (ap (λ (x : CallerView). x.number) lr.before ∙ has.keeps.number) in
+        subst (λ (es : List Entry). IsWithin es (entries_of c.number part)) (sym (own_s ∙ ap (λ (j : ℕ). entries_of j (entries_known s.seat)) number)) (own_grows c.number known_there)
+
+    reads_there : (l : ℕ) (r : Seen) → IsKnownAt s.seat l r → (n : ℕ) × (left_by z (take n part) l ≡ seen_as_cell r)
+    reads_there l r (at, kn) =
+        let (more, e) = shorter in
+        let kn_o : IsKnown (first_store o) (known o s.seat.past) r = subst (λ (t : TableView). IsKnown (first_store (opening_of t.origin)) (known (opening_of t.origin) s.seat.past) r) (sym has.keeps.of) kn in
+        let kn_cut : IsKnown (first_store o) (known o lr.note.past) r = subst (λ (x : List Event). IsKnown (first_store o) (known o x) r) (sym e) (known_on o s.seat.past more (subst (IsMeant o) e meant_cut) r kn_o) in
+        let front : made (first_store o) (take kn_cut.0 (entries (known o lr.note.past))) l ≡ seen_as_cell r = ap (λ (es : List Entry). made (first_store o) es l) (front_entries kn_cut.0 (known o lr.note.past)) ∙ subst (λ (j : ℕ). ending_store (first_store o) (take kn_cut.0 (known o lr.note.past)) j ≡ seen_as_cell r) at kn_cut.1 in
+        (kn_cut.0, at_part (λ (i : Store) (es : List Entry). made i (take kn_cut.0 es) l ≡ seen_as_cell r) front)
+
+    views_there : (x u : CallerView) (f : Footprint) → StandsAtOnce f x u → KeepsKnown u.seat s.seat → FrontMakes (store_opening z) part (entries_known x.seat) f
+    views_there x u f (front, stood) keeps =
+        let all : KeepsKnown u.seat c.seat = keeps_then u.seat s.seat c.seat keeps has.keeps in
+        let meant_u : IsMeant (opening_at_seat u.seat) lr.note.past = subst (λ (t : TableView). IsMeant (opening_of t.origin) lr.note.past) all.of meant_cut in
+        let there : HasFront (first_store (opening_at_seat u.seat)) (known (opening_at_seat u.seat) lr.note.past) (knows x.seat) f = front_later x.seat u.seat f lr.note.past stood (prefix_then u.seat.past s.seat.past lr.note.past keeps.past shorter) meant_u in
+        at_part (λ (i : Store) (es : List Entry). FrontMakes i es (entries_known x.seat) f) (subst (λ (t : TableView). FrontMakes (first_store (opening_of t.origin)) (entries (known (opening_of t.origin) lr.note.past)) (entries_known x.seat) f) (sym all.of) (front_of_entries (first_store (opening_at_seat u.seat)) (known (opening_at_seat u.seat) lr.note.past) (knows x.seat) f there))
+
+    pub stands_behind : StandsBefore z c.number c.own s part
+    stands_behind = record { cells = lr.note.cut.cells; cut = lr.note.cut.cut; known = known_there; own = own_there; no_other = no_other; reads = reads_there; views = views_there }
 
   among : (x : Entry) → Contains c.own x → Contains w.known x
   among x i = within_contains c.own w.known x (within_on (subst (λ (es : List Entry). IsWithin es c.known) (sym lr.own) (own_within c.number c.known)) lr.learns.remembers.known) i

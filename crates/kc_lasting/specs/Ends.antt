@@ -27,11 +27,11 @@ pub record IsEraEnd (z : StoreView) (n : NoteView) (history : List Entry) (versi
   pub history_is : history ≡ entries (known (opening_of z.table.origin) past)
   pub cut : IsCutAt z (entries (known (opening_of z.table.origin) past)) versions
 
--- Since it stood so, the caller goes on. Then it had no entries, or knew of no put of location g that makes a version above this one
+-- Since it stood so, the caller goes on. Then it knew nothing, or knew of no put of location g that makes a version above this one
 pub record HasSeen (g flag : ℕ) (seen now : CallerView) : Type 0 where
   pub keeps : KeepsKnown seen.seat now.seat
   pub shows : seen ≡ caller_view seen.worn seen.seat
-  pub early : (seen.own ≡ []) ⊎ ((standing_at seen.seat g).version ≤ flag)
+  pub early : (seen.seat.past ≡ []) ⊎ ((standing_at seen.seat g).version ≤ flag)
 
 -- it is how an era of these ended
 pub record EndsEra (lines : List Line) (x : End) : Type 0 where
@@ -40,6 +40,11 @@ pub record EndsEra (lines : List Line) (x : End) : Type 0 where
   pub note : NoteView
   pub ended : ended_at lines (suc x.era) ≡ Some note
   pub end : IsEraEnd store x.note note.known x.versions.items
+
+-- nobody has done anything with it
+pub record IsNewCaller (c : CallerView) : Type 0 where
+  pub own : c.own ≡ []
+  pub past : c.seat.past ≡ []
 
 abbrev pub MayEnd : List Line → Option End → Type 0
 MayEnd lines None = Unit {0}

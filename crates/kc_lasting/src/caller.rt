@@ -3,18 +3,18 @@
 ghost use Rattle.std.specs.Prelude.{◌≡◌, ◌≤◌, ◌<◌, Some, true};
 ghost use Rattle.std.specs.Arc.{arc_value};
 ghost use Rattle.kc_lasting.specs.Eras.{AreEras, store_at};
-ghost use Rattle.kc_lasting.specs.Told.{AttemptsSo, CommitsInSomeEra, EndsIn, Moves, ReadsSo, Renews, ViewsAtLast, ViewsOnce, is_worn_verdict, standing_of};
+ghost use Rattle.kc_lasting.specs.Told.{AttemptsSo, CommitsInSomeEra, EndsIn, GlimpsesOnce, LooksOrPasses, Moves, DoesNothing, ReadsSo, Renews, ViewsSo, is_worn_verdict, standing_of};
 ghost use Rattle.kc_roll.specs.Fronts.{StandsAtFront};
 ghost use Rattle.kc_store.specs.Verdicts.{verdict_as, verdict_of};
 ghost use Rattle.kc_xt.specs.Commit.{tried_of};
 ghost use Rattle.kc_xt.specs.Meaning.{limited};
 
-use crate::crossing::{Crossing, cross, stands};
+use crate::crossing::{Crossing, cross, goes_on, stands};
 use crate::handle::LastingCaller;
 use crate::line::Line;
 use kc_model::{Footprint, Loc, Seen};
 use kc_roll::Page;
-use kc_store::{Answered, Fate, Viewed, Wakes, answer_on, is_final};
+use kc_store::{Answered, Fate, Glimpse, Viewed, answer_on, is_final, viewed_on};
 use kc_xt::{Transact, Trial, Went, rest};
 use std::sync::Wait;
 
@@ -56,8 +56,7 @@ impl LastingCaller {
         self.client.locations
     }
 
-    /// One try, whose reply stays where it lies, in the trial. Whom its steps signal it notes, and they are the caller's to wake, as
-    /// of a store: the numbers are those of all eras.
+    /// One try, whose reply stays where it lies, in the trial. Whom its steps signal it wakes.
     #[inline(always)]
     pub fn try_in_place<R: Wait, T: Transact>(
         &mut self,
@@ -65,7 +64,6 @@ impl LastingCaller {
         transaction: &T,
         trial: &mut Trial,
         footprint: &mut Footprint,
-        wakes: &mut Wakes,
     ) -> Attempt
         requires fit { T.is_fit transaction.now }
         requires within { T.end transaction.now ≤ self.old.client.locations }
@@ -78,7 +76,7 @@ impl LastingCaller {
             client,
             place,
         } = self;
-        let fate = client.try_in_place(transaction, trial, footprint, wakes);
+        let fate = client.try_in_place(transaction, trial, footprint);
         let worn = is_worn(fate, trial);
         if stands(rt, shared, client, place, footprint, worn) {
             Attempt::Came(fate)
@@ -103,7 +101,7 @@ impl LastingCaller {
         let mut trial = Trial::new();
         let mut pauses = FIRST_PAUSES;
         'tries: for _ in rt.forever() {
-            if let Attempt::Came(fate) = self.try_waking(rt, transaction, &mut trial, footprint) {
+            if let Attempt::Came(fate) = self.try_in_place(rt, transaction, &mut trial, footprint) {
                 if is_final(fate, &trial) {
                     return answer_on(fate, &trial);
                 }
@@ -112,35 +110,6 @@ impl LastingCaller {
             }
         }
         unreachable!()
-    }
-
-    // One try, which wakes whom its steps signal.
-    #[inline(always)]
-    fn try_waking<R: Wait, T: Transact>(
-        &mut self,
-        rt: &R,
-        transaction: &T,
-        trial: &mut Trial,
-        footprint: &mut Footprint,
-    ) -> Attempt
-        requires fit { T.is_fit transaction.now }
-        requires within { T.end transaction.now ≤ self.old.client.locations }
-        ensures told { AttemptsSo (limited (T.most transaction.now) (T.meaning transaction.now)) result (tried_of trial.new.went trial.new.reply) (standing_of self.old) footprint.new (standing_of self.new) }
-        ensures moves { Moves (standing_of self.old) (standing_of self.new) }
-        ensures size { self.new.client.locations ≡ self.old.client.locations }
-    {
-        let LastingCaller {
-            shared,
-            client,
-            place,
-        } = self;
-        let fate = client.try_waking(transaction, trial, footprint);
-        let worn = is_worn(fate, trial);
-        if stands(rt, shared, client, place, footprint, worn) {
-            Attempt::Came(fate)
-        } else {
-            Attempt::Renewed
-        }
     }
 
     /// Begins a new era, where the last one is the handle's, and goes over to the last one. Others' commits wait meanwhile, so a quiet
@@ -162,24 +131,21 @@ impl LastingCaller {
         }
     }
 
-    /// Another handle comes back, and its era ends: all that it had committed there stands in the history with which it ended, of which
-    /// this handle knows now. False: there was no memory.
-    pub fn take_in<R: Wait>(&mut self, rt: &R, other: LastingCaller) -> bool
-        requires { (standing_of other).roll ≡ (standing_of self.old).roll }
-        ensures ends { result ≡ true → EndsIn (standing_of self.new).lines (standing_of other) }
+    /// The era of another handle ends: all that it had committed there stands in the history with which it ended, of which this handle
+    /// knows now. False: there was no memory.
+    pub fn take_in<R: Wait>(&mut self, rt: &R, other: &mut LastingCaller) -> bool
+        requires of { (standing_of other.old).roll ≡ (standing_of self.old).roll }
+        ensures ends { result ≡ true → EndsIn (standing_of self.new).lines (standing_of other.old) }
+        ensures passes { DoesNothing (standing_of other.old) (standing_of other.new) }
         ensures moves { Moves (standing_of self.old) (standing_of self.new) }
+        ensures other_moves { Moves (standing_of other.old) (standing_of other.new) }
         ensures kept { (self.new.shared ≡ self.old.shared) × (self.new.client ≡ self.old.client) }
     {
-        let mut other = other;
         if !other.renew(rt) {
             return false;
         }
-        let LastingCaller {
-            shared: _,
-            client: _,
-            place,
-        } = other;
-        self.see(place.page);
+        let page = other.shared.roll.again(&mut other.place.page);
+        self.see(page);
         true
     }
 
@@ -194,7 +160,7 @@ impl LastingCaller {
         self.shared.roll.join(&mut self.place.page, page);
     }
 
-    /// Views a transaction: see `view_into` of a store.
+    /// Views a transaction: see `view_into` of a store. It is no commit of the handle's share, unless it was committed.
     pub fn view_into<R: Wait, T: Transact>(
         &mut self,
         rt: &R,
@@ -203,28 +169,32 @@ impl LastingCaller {
     ) -> Viewed
         requires fit { T.is_fit transaction.now }
         requires within { T.end transaction.now ≤ self.old.client.locations }
-        ensures viewed { ViewsAtLast (limited (T.most transaction.now) (T.meaning transaction.now)) result (standing_of self.old) footprint.new (standing_of self.new) }
+        ensures viewed { ViewsSo (limited (T.most transaction.now) (T.meaning transaction.now)) result (standing_of self.old) footprint.new (standing_of self.new) }
         ensures moves { Moves (standing_of self.old) (standing_of self.new) }
         ensures size { self.new.client.locations ≡ self.old.client.locations }
     {
         'tries: for _ in rt.forever() {
-            if let Some(viewed) = self.view_once(rt, transaction, footprint) {
+            let Some(glimpse) = self.glimpse(rt, transaction, footprint) else {
+                continue 'tries;
+            };
+            if let Some(viewed) = viewed_on(glimpse) {
                 return viewed;
             }
+            return Viewed::Committed(self.commit_into(rt, transaction, footprint));
         }
         unreachable!()
     }
 
-    // A view in its era; none where it may show what doesn't stand in the history.
-    fn view_once<R: Wait, T: Transact>(
+    // Some tries to view it in its era; none where that was cut off meanwhile.
+    fn glimpse<R: Wait, T: Transact>(
         &mut self,
         rt: &R,
         transaction: &T,
         footprint: &mut Footprint,
-    ) -> Option<Viewed>
+    ) -> Option<Glimpse>
         requires fit { T.is_fit transaction.now }
         requires within { T.end transaction.now ≤ self.old.client.locations }
-        ensures viewed { ViewsOnce (limited (T.most transaction.now) (T.meaning transaction.now)) result (standing_of self.old) footprint.new (standing_of self.new) }
+        ensures glimpsed { GlimpsesOnce (limited (T.most transaction.now) (T.meaning transaction.now)) result (standing_of self.old) footprint.new (standing_of self.new) }
         ensures moves { Moves (standing_of self.old) (standing_of self.new) }
         ensures size { self.new.client.locations ≡ self.old.client.locations }
     {
@@ -233,14 +203,15 @@ impl LastingCaller {
             client,
             place,
         } = self;
-        let viewed = client.view_into(rt, transaction, footprint);
-        if stands(rt, shared, client, place, footprint, false) {
-            return Some(viewed);
+        let glimpse = client.glimpse(transaction, footprint);
+        if goes_on(rt, shared, client, place) {
+            Some(glimpse)
+        } else {
+            None
         }
-        None
     }
 
-    /// What stands at a location, with its version in an era of the handle, the last in which it looked.
+    /// What stands at a location, with its version in the handle's era. It is no commit of the handle's share.
     pub fn read<R: Wait>(&mut self, rt: &R, at: Loc) -> Seen
         requires within { at.0 < self.old.client.locations }
         ensures reads { ReadsSo at.0 result (standing_of self.old) (standing_of self.new) }
@@ -248,17 +219,31 @@ impl LastingCaller {
         ensures size { self.new.client.locations ≡ self.old.client.locations }
     {
         'tries: for _ in rt.forever() {
-            let LastingCaller {
-                shared,
-                client,
-                place,
-            } = self;
-            let seen = client.read(rt, at);
-            if stands(rt, shared, client, place, &Footprint::new(), false) {
+            if let Some(seen) = self.look(rt, at) {
                 return seen;
             }
         }
         unreachable!()
+    }
+
+    // What stands there in its era; none where that was cut off meanwhile.
+    fn look<R: Wait>(&mut self, rt: &R, at: Loc) -> Option<Seen>
+        requires within { at.0 < self.old.client.locations }
+        ensures looks { LooksOrPasses at.0 result (standing_of self.old) (standing_of self.new) }
+        ensures moves { Moves (standing_of self.old) (standing_of self.new) }
+        ensures size { self.new.client.locations ≡ self.old.client.locations }
+    {
+        let LastingCaller {
+            shared,
+            client,
+            place,
+        } = self;
+        let seen = client.read(rt, at);
+        if goes_on(rt, shared, client, place) {
+            Some(seen)
+        } else {
+            None
+        }
     }
 }
 

@@ -3,24 +3,30 @@
 ghost use Rattle.std.specs.Prelude.{◌≡◌, ◌<◌, ◌≤◌, ◌+◌, [], true, false};
 ghost use Rattle.std.specs.Arc.{arc_value};
 ghost use Rattle.kc_lasting.specs.Cuts.{LooksOnceAt};
-ghost use Rattle.kc_lasting.specs.Ends.{HasSeen};
+ghost use Rattle.kc_lasting.specs.Ends.{HasSeen, IsNewCaller};
 ghost use Rattle.kc_model.specs.declared.plain_store.TheConstants.{MOST_LOCATIONS};
+ghost use Rattle.kc_store.specs.Answers.{Settles};
 ghost use Rattle.kc_store.specs.Knows.{IsTold, OnlyLearns, Remembers};
+ghost use Rattle.kc_store.specs.Tries.{Tries};
 ghost use Rattle.kc_store.specs.Verdicts.{verdict_as};
-ghost use Rattle.kc_store.specs.Viewing.{IsViewed};
+ghost use Rattle.kc_store.specs.Viewing.{InVain, IsGlimpsed, is_settled};
+ghost use Rattle.kc_store.specs.declared.viewing.TheConstants.{MOST_VIEWS};
 ghost use Rattle.kc_xt.specs.Commit.{tried_of};
 ghost use Rattle.kc_xt.specs.Meaning.{limited};
 
 use crate::cutting::look;
 use crate::era::Era;
-use kc_model::{Footprint, Loc, MOST, Seen};
-use kc_store::{Caller, Fate, Viewed, Wakes};
+use kc_model::{Footprint, Loc, Seen};
+use kc_store::{Caller, Fate, Glimpse, Wakes};
 use kc_xt::{Transact, Trial};
 use std::alloc::Global;
 use std::snapshot::Snapshot;
 use std::sync::{Arc, Wait};
 use std::thread;
 use std::time::Duration;
+
+// How long it hangs where nobody would wake it, in milliseconds.
+const MOMENT: u64 = 1;
 
 /// A caller, and its share of the era that it is of. Behind the locations that transactions touch the store has one more, the flag:
 /// who cuts the era off puts it first. So who finds it as it was knows less than is known at the cut.
@@ -52,7 +58,7 @@ impl Fresh {
         requires of { caller.of ≡ (arc_value era).store }
         requires size { caller.of.locations ≡ locations + 1 }
         requires few { locations < MOST_LOCATIONS }
-        requires new { caller.own ≡ [] }
+        requires new { IsNewCaller caller }
         ensures caller { result.client.caller ≡ caller }
         ensures size { result.client.locations ≡ locations }
     {
@@ -67,7 +73,7 @@ impl Client {
         requires of { caller.of ≡ (arc_value era).store }
         requires size { caller.of.locations ≡ locations + 1 }
         requires few { locations < MOST_LOCATIONS }
-        requires new { caller.own ≡ [] }
+        requires new { IsNewCaller caller }
         ensures caller { result.caller ≡ caller }
         ensures size { result.locations ≡ locations }
         ensures seen { result.seen.value ≡ caller }
@@ -128,65 +134,49 @@ impl Client {
         *seen = before;
     }
 
-    /// One try in its era.
+    /// One try in its era, which wakes whom its steps signal.
     #[inline(always)]
     pub(crate) fn try_in_place<T: Transact>(
         &mut self,
         transaction: &T,
         trial: &mut Trial,
         footprint: &mut Footprint,
-        wakes: &mut Wakes,
     ) -> Fate
         requires fit { T.is_fit transaction.now }
         requires within { T.end transaction.now ≤ self.old.locations }
         ensures told { IsTold (limited (T.most transaction.now) (T.meaning transaction.now)) (verdict_as result (tried_of trial.new.went trial.new.reply)) self.old.caller footprint.new self.new.caller }
+        ensures tries { Tries (limited (T.most transaction.now) (T.meaning transaction.now)) footprint.new self.old.caller.seat self.new.caller.seat }
+        ensures settles { Settles (limited (T.most transaction.now) (T.meaning transaction.now)) (verdict_as result (tried_of trial.new.went trial.new.reply)) self.old.caller.seat footprint.new self.new.caller.seat }
         ensures remembers { Remembers self.old.caller self.new.caller }
         ensures seen { self.new.seen.value ≡ self.old.seen.value }
         ensures size { self.new.locations ≡ self.old.locations }
     {
         let Client { era, caller, .. } = self;
-        era.store
-            .try_in_place(caller, transaction, trial, footprint, wakes)
-    }
-
-    /// The same, and wakes whom its steps signal.
-    #[inline(always)]
-    pub(crate) fn try_waking<T: Transact>(
-        &mut self,
-        transaction: &T,
-        trial: &mut Trial,
-        footprint: &mut Footprint,
-    ) -> Fate
-        requires fit { T.is_fit transaction.now }
-        requires within { T.end transaction.now ≤ self.old.locations }
-        ensures told { IsTold (limited (T.most transaction.now) (T.meaning transaction.now)) (verdict_as result (tried_of trial.new.went trial.new.reply)) self.old.caller footprint.new self.new.caller }
-        ensures remembers { Remembers self.old.caller self.new.caller }
-        ensures seen { self.new.seen.value ≡ self.old.seen.value }
-        ensures size { self.new.locations ≡ self.old.locations }
-    {
         let mut wakes = Wakes::none();
-        let fate = self.try_in_place(transaction, trial, footprint, &mut wakes);
-        self.era.store.wake(wakes);
+        let fate = era
+            .store
+            .try_in_place(caller, transaction, trial, footprint, &mut wakes);
+        era.store.wake(wakes);
         fate
     }
 
-    /// A view in its era.
+    /// Some tries to view a transaction in its era.
     #[inline(always)]
-    pub(crate) fn view_into<R: Wait, T: Transact>(
+    pub(crate) fn glimpse<T: Transact>(
         &mut self,
-        rt: &R,
         transaction: &T,
         footprint: &mut Footprint,
-    ) -> Viewed
+    ) -> Glimpse
         requires fit { T.is_fit transaction.now }
         requires within { T.end transaction.now ≤ self.old.locations }
-        ensures viewed { IsViewed (limited (T.most transaction.now) (T.meaning transaction.now)) result self.old.caller footprint.new self.new.caller }
-        ensures remembers { Remembers self.old.caller self.new.caller }
+        ensures glimpsed { is_settled result ≡ true → IsGlimpsed (limited (T.most transaction.now) (T.meaning transaction.now)) result self.old.caller footprint.new self.new.caller }
+        ensures vain { is_settled result ≡ false → InVain (limited (T.most transaction.now) (T.meaning transaction.now)) self.old.caller MOST_VIEWS self.new.caller }
+        ensures learns { OnlyLearns self.old.caller self.new.caller }
         ensures seen { self.new.seen.value ≡ self.old.seen.value }
         ensures size { self.new.locations ≡ self.old.locations }
     {
         let Client { era, caller, .. } = self;
-        era.store.view_into(rt, caller, transaction, footprint)
+        era.store.try_views_into(caller, transaction, footprint)
     }
 
     /// What stands at a location in its era.
@@ -201,7 +191,8 @@ impl Client {
         look(rt, &era.store, caller, at)
     }
 
-    /// Hangs on what was read, and on the flag, until something of it may have changed, for so long at most.
+    /// Hangs on what was read, and on the flag, until something of it may have changed, for so long at most. Beside as many reads as
+    /// a transaction may have there is no room for the flag: then it hangs for a moment at a time.
     pub(crate) fn wait<R: Wait>(&mut self, rt: &R, footprint: &Footprint, limit: Option<Duration>)
         ensures learns { OnlyLearns self.old.caller self.new.caller }
         ensures seen { self.new.seen.value ≡ self.old.seen.value }
@@ -215,7 +206,7 @@ impl Client {
             ..
         } = self;
         let end = *locations;
-        let hang = with_flag(footprint, Loc(end), *flag);
+        let (hang, limit) = with_flag(footprint, Loc(end), *flag, limit);
         let reads = hang.reads.as_slice();
         if reads.is_empty() {
             return thread::yield_now();
@@ -229,19 +220,30 @@ impl Client {
     }
 }
 
-// The reads, and the flag as the last one; none where there is no room for it.
-fn with_flag(footprint: &Footprint, at: Loc, version: u32) -> Footprint {
+// The reads, and behind them the flag, for so long at most. Where there is no room for the flag, for a moment at most: nobody wakes who
+// hangs on the reads alone where the era ends.
+fn with_flag(
+    footprint: &Footprint,
+    at: Loc,
+    version: u32,
+    limit: Option<Duration>,
+) -> (Footprint, Option<Duration>) {
     let mut all = Footprint::new();
-    let reads = footprint.reads.as_slice();
-    if reads.len() < MOST {
-        for read in reads {
-            let _ = all.reads.try_push(*read);
-        }
-        let _ = all.reads.try_push(Seen {
-            loc: at,
-            version,
-            value: 0,
-        });
+    for read in footprint.reads.as_slice() {
+        let _ = all.reads.try_push(*read);
     }
-    all
+    let flag = Seen {
+        loc: at,
+        version,
+        value: 0,
+    };
+    if all.reads.try_push(flag).is_ok() {
+        return (all, limit);
+    }
+    let moment = Duration::from_millis(MOMENT);
+    let left = match limit {
+        Some(left) => left.min(moment),
+        None => moment,
+    };
+    (all, Some(left))
 }

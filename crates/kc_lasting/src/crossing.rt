@@ -3,8 +3,9 @@
 ghost use Rattle.std.specs.Prelude.{◌≡◌, ◌<◌, None, Some, [], true, false};
 ghost use Rattle.kc_lasting.specs.Eras.{AreEras, IsEnded, store_at};
 ghost use Rattle.kc_lasting.specs.Kept.{ErasKept, HasItsPlace, MovesOn};
-ghost use Rattle.kc_lasting.specs.Told.{AddsNoPuts, Counts, Crosses, CrossesOnce, Judged};
+ghost use Rattle.kc_lasting.specs.Told.{AddsNoPuts, Counts, Crosses, CrossesOnce, Judged, DoesNothingAs};
 ghost use Rattle.kc_roll.specs.Fronts.{StandsAtFront};
+ghost use Rattle.kc_store.specs.Knows.{OnlyLearns};
 
 use crate::client::{Client, Fresh};
 use crate::eras::Eras;
@@ -42,7 +43,7 @@ pub(crate) fn stands<R: Wait>(
 ) -> bool
     requires worn { worn ≡ true → AddsNoPuts client.old.seen.value.own client.old.caller footprint.now }
     requires placed { HasItsPlace shared.now.roll client.old.caller.of place.old }
-    ensures judged { Judged (IsEnded place.new.page.seen place.old.era) result client.old.seen.value.own client.old.caller footprint.now client.new.caller }
+    ensures judged { Judged (IsEnded place.new.page.seen place.old.era) result client.old.seen.value client.old.caller footprint.now client.new.caller client.new.seen.value }
     ensures all { client.new.seen.value.own ≡ client.new.caller.own }
     ensures placed { HasItsPlace shared.now.roll client.new.caller.of place.new }
     ensures moves { MovesOn place.old place.new }
@@ -67,6 +68,30 @@ pub(crate) fn stands<R: Wait>(
     }
 }
 
+/// Whether the era goes on in which a handle has looked, as it finds. Else it goes over to the last one. A look makes no version, so it
+/// uses up nothing of the handle's share.
+#[inline(always)]
+pub(crate) fn goes_on<R: Wait>(
+    rt: &R,
+    shared: &Shared,
+    client: &mut Client,
+    place: &mut Place,
+) -> bool
+    requires placed { HasItsPlace shared.now.roll client.old.caller.of place.old }
+    ensures on { result ≡ true → OnlyLearns client.old.caller client.new.caller × (client.new.seen.value ≡ client.old.caller) × (place.new ≡ place.old) }
+    ensures over { result ≡ false → DoesNothingAs (IsEnded place.new.page.seen place.old.era) client.old.seen.value client.old.caller client.new.caller client.new.seen.value }
+    ensures all { client.new.seen.value.own ≡ client.new.caller.own }
+    ensures placed { HasItsPlace shared.now.roll client.new.caller.of place.new }
+    ensures moves { MovesOn place.old place.new }
+    ensures size { client.new.locations ≡ client.old.locations }
+{
+    if client.is_open(rt) {
+        return true;
+    }
+    cross(rt, shared, client, place, &Footprint::new(), false);
+    false
+}
+
 /// With the eras taken out: begins a new one where the last is the handle's, if that is wanted, and goes over to the last one.
 #[cold]
 #[inline(never)]
@@ -79,7 +104,7 @@ pub(crate) fn cross<R: Wait>(
     begins: bool,
 ) -> Crossing
     requires placed { HasItsPlace shared.now.roll client.old.caller.of place.old }
-    ensures crosses { Crosses (IsEnded place.new.page.seen place.old.era) result client.old.seen.value.own client.old.caller footprint.now client.new.caller }
+    ensures crosses { Crosses (IsEnded place.new.page.seen place.old.era) result client.old.seen.value client.old.caller footprint.now client.new.caller client.new.seen.value }
     ensures all { client.new.seen.value.own ≡ client.new.caller.own }
     ensures placed { HasItsPlace shared.now.roll client.new.caller.of place.new }
     ensures moves { MovesOn place.old place.new }
@@ -168,10 +193,7 @@ fn renew_if_last<R: Wait>(rt: &R, shared: &Shared, eras: &mut Eras, place: &mut 
     if !begins || eras.number != place.era {
         return;
     }
-    if eras
-        .renew(rt, &shared.roll, shared.alloc, shared.callers)
-        .is_err()
-    {
+    if eras.renew(rt, &shared.roll, shared.alloc).is_err() {
         place.left = AGAIN_AFTER;
     }
 }

@@ -2,7 +2,7 @@
 
 ghost use Rattle.std.specs.Prelude.{◌≡◌, ◌≤◌, false, true};
 ghost use Rattle.kc_await.specs.Waiting.{is_later};
-ghost use Rattle.kc_lasting.specs.Told.{Moves, WaitsTill, standing_of};
+ghost use Rattle.kc_lasting.specs.Told.{Moves, DoesNothing, WaitsTill, standing_of};
 ghost use Rattle.kc_xt.specs.Meaning.{limited};
 
 use crate::handle::LastingCaller;
@@ -72,6 +72,7 @@ impl LastingCaller {
     // Hangs on what was read until something of it may have changed, or the era ends, for so long at most. Where the handle went over
     // since that era, it doesn't: what was read has other versions now.
     fn wait<R: Wait>(&mut self, rt: &R, footprint: &Footprint, era: u64, limit: Option<Duration>)
+        ensures passes { DoesNothing (standing_of self.old) (standing_of self.new) }
         ensures moves { Moves (standing_of self.old) (standing_of self.new) }
         ensures size { self.new.client.locations ≡ self.old.client.locations }
     {

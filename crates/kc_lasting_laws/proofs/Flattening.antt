@@ -39,7 +39,7 @@ value_there s k (suc l) (r ∷ rs) lt all =
 pub cell_same : (c : Cell) (v w : ℕ) → c.version ≡ v → c.value ≡ w → c ≡ record { version = v; value = w }
 cell_same c v w a b = rw (← a, ← b) refl
 
-agrees_next : (b : ℕ → ℕ) (n : NoteView) (left : List ℕ) (y : StoreView) (s : Store) → LeavesValues n left → OpensOn left y → AgreesRaised n.of.locations b s (left_by n.of n.known) → AgreesRaised y.locations (versions_with b (Some n)) s (store_opening y)
+pub agrees_next : (b : ℕ → ℕ) (n : NoteView) (left : List ℕ) (y : StoreView) (s : Store) → LeavesValues n left → OpensOn left y → AgreesRaised n.of.locations b s (left_by n.of n.known) → AgreesRaised y.locations (versions_with b (Some n)) s (store_opening y)
 agrees_next b n left y s leaves opens agrees l lt =
     let a = opens.opens.locations in
     let c = ap length leaves.values_are in
@@ -55,7 +55,7 @@ agrees_next b n left y s leaves opens agrees l lt =
 
 -- ---- one era behind another
 
-as_one : (x y : StoreView) (o : Option StoreView) → o ≡ Some x → o ≡ Some y → x ≡ y
+pub as_one : (x y : StoreView) (o : Option StoreView) → o ≡ Some x → o ≡ Some y → x ≡ y
 as_one x y o a b = let e : Some x ≡ Some y = sym a ∙ b in cc
 
 legal_one : (b : ℕ → ℕ) (n : NoteView) (left : List ℕ) (y : StoreView) (ms : List Line) (s : Store) → LeavesValues n left → OpensOn left y → AgreesRaised n.of.locations b s (store_opening n.of)
@@ -94,7 +94,7 @@ flat_agrees b l (m ∷ ms) z x s (suc k) at follow agrees long there =
 
 -- ---- what stands in an era's history stands in it
 
-within_raised : (f : Entry → Entry) (a c : List Entry) → IsWithin a c → IsWithin (map f a) (map f c)
+pub within_raised : (f : Entry → Entry) (a c : List Entry) → IsWithin a c → IsWithin (map f a) (map f c)
 within_raised f a c none = none
 within_raised f a c (here w) = here (within_raised f _ _ w)
 within_raised f a c (later w) = later (within_raised f _ _ w)
@@ -104,7 +104,7 @@ within_first a c d none = none
 within_first a c d (here w) = here (within_first _ _ d w)
 within_first a c d (later w) = later (within_first _ _ d w)
 
-within_behind : (a c d : List Entry) → IsWithin a d → IsWithin a (c ++ d)
+pub within_behind : (a c d : List Entry) → IsWithin a d → IsWithin a (c ++ d)
 within_behind a [] d w = w
 within_behind a (x ∷ c) d w = later (within_behind a c d w)
 

@@ -2,6 +2,7 @@ pub mod Raising
 pub mod Flattening
 pub mod Whole
 pub mod Counting
+pub mod Showing
 pub mod Taking
 pub mod Living
 pub mod Trying

@@ -30,7 +30,7 @@ after_raised : (n : ℕ) (b : ℕ → ℕ) (s t : Store) (f : Footprint) → Agr
 after_raised n b s t f agrees l lt =
     ap (λ (o : Option Put). cell_after o (s l)) (put_at_raised b f.puts.items l) ∙ ap (λ (c : Cell). cell_after (option_map (put_raised b) (put_at f.puts.items l)) c) (agrees l lt) ∙ cell_after_raised b l (put_at f.puts.items l) (t l)
 
-finds_raised : (n : ℕ) (b : ℕ → ℕ) (s t : Store) (f : Footprint) → IsBelow n f → AgreesRaised n b s t → Finds f t → Finds (footprint_raised b f) s
+pub finds_raised : (n : ℕ) (b : ℕ → ℕ) (s t : Store) (f : Footprint) → IsBelow n f → AgreesRaised n b s t → Finds f t → Finds (footprint_raised b f) s
 finds_raised n b s t f below agrees finds r reads = All-contains P (map (read_raised b) f.reads.items) r (All-map P (read_raised b) f.reads.items each) reads
   where
     P : Seen → Type 0

@@ -38,7 +38,7 @@ raised_too {A} {B} f (y ∷ xs) x c = go (first_or_later y xs x c) (raised_too f
     go (inl e) ih = subst (λ (z : A). Contains (map f (y ∷ xs)) (f z)) e (Contains-first (f y) (map f xs))
     go (inr c) ih = Contains-later (f y) (map f xs) (f x) (ih c)
 
-agrees_first : (n : ℕ) (s : Store) → AgreesRaised n no_versions s s
+pub agrees_first : (n : ℕ) (s : Store) → AgreesRaised n no_versions s s
 agrees_first n s l lt = cell_same (s l) _ _ (omega arith) refl
 
 pub begins_whole : (roll : TableId) (z : StoreView) (h : LastingCaller) (d : HandleView) → IsFirst roll z h → Moves (standing_of h) d → StandsAtFront (first_line z ∷ []) d.lines

@@ -8,7 +8,7 @@ use crate::asserts::equal;
 use kc_lasting::{Attempt, LastingCaller, open_at};
 use kc_loc::LocOp;
 use kc_model::{Footprint, Loc, Reply};
-use kc_store::{Fate, Viewed, Wakes};
+use kc_store::{Fate, Viewed};
 use kc_xt::{Transact, Trial, Went};
 use std::alloc::Global;
 use std::process::Abort;
@@ -82,12 +82,8 @@ fn tried<R: Wait>(rt: &R, caller: &mut LastingCaller) -> Option<bool> {
         return None;
     }
     let mut trial = Trial::new();
-    let mut wakes = Wakes::none();
     let add = LocOp::FetchAdd(Loc(0), 1);
-    let attempt = caller.try_in_place(rt, &add, &mut trial, &mut Footprint::new(), &mut wakes);
-    // Nobody hangs.
-    wakes.bits();
-    match attempt {
+    match caller.try_in_place(rt, &add, &mut trial, &mut Footprint::new()) {
         Attempt::Came(Fate::Entered { .. }) => Some(matches!(trial.went, Went::Done)),
         Attempt::Came(_) => None,
         Attempt::Renewed => Some(false),
@@ -104,16 +100,18 @@ fn a_late_try_is_cut_away_and_the_next_one_stands(rt: HostRuntime) {
 }
 
 #[test]
-fn a_late_handle_is_taken_in(rt: HostRuntime) {
-    let (late, mut busy) = a_late_one(&rt);
-    equal(&rt, busy.take_in(&rt, late), true);
+fn a_late_handle_is_taken_in_and_goes_on(rt: HostRuntime) {
+    let (mut late, mut busy) = a_late_one(&rt);
+    equal(&rt, busy.take_in(&rt, &mut late), true);
     equal(&rt, read(&rt, &mut busy, 0), Some(101));
+    equal(&rt, add(&rt, &mut late, 0), Some(101));
+    equal(&rt, late.era(), 25);
 }
 
 #[test]
 fn all_handles_come_back(rt: HostRuntime) {
     let (late, mut busy) = a_late_one(&rt);
-    let others = Vec::from_array(rt.alloc(), [late]).expect(&rt, "no memory");
-    equal(&rt, busy.finish(&rt, others), true);
+    let mut others = [late];
+    equal(&rt, busy.finish(&rt, &mut others), true);
     equal(&rt, read(&rt, &mut busy, 0), Some(101));
 }

@@ -1,6 +1,7 @@
 use Rattle.std.proofs.Common.{◌≡◌, ◌∙◌, ◌+◌, ◌++◌, ◌∷◌, List, ℕ, [], ap, arith, length, subst, sym}
 use Rattle.std.specs.Prelude.{All}
 use Rattle.kc_lasting.proofs.Dealing.{all_new, all_opened, as_many_opened}
+use Rattle.kc_lasting.specs.Ends.{IsNewCaller}
 use Rattle.kc_lasting.specs.Opening.{IsFirst}
 use Rattle.kc_store.specs.Knows.{OpensWith}
 use Rattle.kc_store.specs.Views.{CallerView, StoreView}
@@ -10,7 +11,7 @@ pub first_of-requires-clause-of : goal.first_of-requires-clause-of
 first_of-requires-clause-of c = subst (λ (cs : List CallerView). All (λ (x : CallerView). x.of ≡ c.in-Ok.pair.0) cs) (sym c.in-Ok.ensures.ok.1) (all_opened c.in-Ok.pair.0 0 _)
 
 pub first_of-requires-clause-new : goal.first_of-requires-clause-new
-first_of-requires-clause-new c = subst (λ (cs : List CallerView). All (λ (x : CallerView). x.own ≡ []) cs) (sym c.in-Ok.ensures.ok.1) (all_new c.in-Ok.pair.0 0 _)
+first_of-requires-clause-new c = subst (λ (cs : List CallerView). All IsNewCaller cs) (sym c.in-Ok.ensures.ok.1) (all_new c.in-Ok.pair.0 0 _)
 
 pub returns : goal.returns
 returns c =

@@ -2,6 +2,7 @@ use Rattle.std.proofs.Common.{◌≡◌, ◌∙◌, ℕ, ◌+◌, [], ◌∷◌,
 use Rattle.std.proofs.lemmas.List.{length-append}
 use Rattle.std.specs.Prelude.{All}
 use Rattle.std.proofs.lemmas.List.Elements.{All-head, All-push, All-same, All-tail}
+use Rattle.kc_lasting.specs.Ends.{IsNewCaller}
 use Rattle.kc_lasting.specs.Opening.{IsFirstClient}
 use Rattle.kc_store.specs.Views.{CallerView}
 use Rattle.kc_lasting.proofs.renewing.deal.Goals as goal
@@ -9,7 +10,7 @@ use Rattle.kc_lasting.proofs.renewing.deal.Goals as goal
 pub of-requires-clause-new : goal.of-requires-clause-new
 of-requires-clause-new c =
     let parts : c.loop-caller.caller-iterator.rest.items ≡ c.in-Some.caller ∷ c.next.new.self.rest.items = search rules in
-    All-head (λ (x : CallerView). x.own ≡ []) _ _ (All-same (λ (x : CallerView). x.own ≡ []) _ _ (sym parts) c.loop-caller.invariant.new)
+    All-head IsNewCaller _ _ (All-same IsNewCaller _ _ (sym parts) c.loop-caller.invariant.new)
 
 pub loop-caller-preserved : goal.loop-caller-preserved
 loop-caller-preserved c =
@@ -17,7 +18,7 @@ loop-caller-preserved c =
     let inv = c.loop-caller.invariant in
     let parts : c.loop-caller.caller-iterator.rest.items ≡ c.in-Some.caller ∷ c.next.new.self.rest.items = search rules in
     let rest : All (λ (x : CallerView). x.of ≡ z) (c.in-Some.caller ∷ c.next.new.self.rest.items) = All-same (λ (x : CallerView). x.of ≡ z) _ _ (sym parts) inv.rest_are in
-    let new : All (λ (x : CallerView). x.own ≡ []) (c.in-Some.caller ∷ c.next.new.self.rest.items) = All-same (λ (x : CallerView). x.own ≡ []) _ _ (sym parts) inv.new in
+    let new : All IsNewCaller (c.in-Some.caller ∷ c.next.new.self.rest.items) = All-same IsNewCaller _ _ (sym parts) inv.new in
     let items : c.push.new.self.items ≡ c.loop-caller.clients.items ++ c.of.result ∷ [] = search rules in
     let one : c.of.result.client.caller.of ≡ z = ap (λ (x : CallerView). x.of) c.of.ensures.caller ∙ All-head (λ (x : CallerView). x.of ≡ z) _ _ rest in
     let first : IsFirstClient z c.of.result = record { of = one; locations = c.requires.size ∙ ap (λ (n : ℕ). n + 1) (sym c.of.ensures.size) } in
@@ -27,5 +28,5 @@ loop-caller-preserved c =
       count = omega (arith, n, m, k, all);
       given_are = All-same (IsFirstClient z) _ _ items (All-push (IsFirstClient z) c.loop-caller.clients.items c.of.result inv.given_are first);
       rest_are = All-tail (λ (x : CallerView). x.of ≡ z) c.in-Some.caller c.next.new.self.rest.items rest;
-      new = All-tail (λ (x : CallerView). x.own ≡ []) c.in-Some.caller c.next.new.self.rest.items new;
+      new = All-tail IsNewCaller c.in-Some.caller c.next.new.self.rest.items new;
     }

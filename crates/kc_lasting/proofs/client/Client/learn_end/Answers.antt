@@ -14,7 +14,7 @@ returns-clause-end c = λ part ended.
     let w = c.learn.new.caller in
     let m = c.note-note in
     let versions = c.args.end.versions.items in
-    let l : Learned v.of v w c.args.end.note part versions = record { of = refl; before = c.shows.ensures.view; behind = c.shows-2.ensures.view; own = c.shows.ensures.own; note = ended; joined = c.learn.ensures.joined; learns = c.learn.ensures.learns } in
+    let l : Learned v.of v w c.args.end.note part versions = record { of = refl; before = c.shows.ensures.view; behind = c.shows-2.ensures.view; own = c.shows.ensures.own; own_behind = c.shows-2.ensures.own; note = ended; joined = c.learn.ensures.joined; learns = c.learn.ensures.learns } in
     end_again v.of v w c.args.end.note part versions l m.result (m.ensures.note.0 ∙ c.learn.ensures.learns.remembers.of) m.ensures.note.2
 
 pub returns-clause-settled : goal.returns-clause-settled
@@ -26,7 +26,7 @@ returns-clause-settled c = λ part ended.
     let versions = c.args.end.versions.items in
     let within : c.args.self.now.locations < length versions = search rules in
     let high : c.args.self.now.flag < get_or versions c.args.self.now.locations c.index.result.now = search rules in
-    let l : Learned v.of v w c.args.end.note part versions = record { of = refl; before = c.shows.ensures.view; behind = c.shows-2.ensures.view; own = c.shows.ensures.own; note = ended; joined = c.learn.ensures.joined; learns = c.learn.ensures.learns } in
+    let l : Learned v.of v w c.args.end.note part versions = record { of = refl; before = c.shows.ensures.view; behind = c.shows-2.ensures.view; own = c.shows.ensures.own; own_behind = c.shows-2.ensures.own; note = ended; joined = c.learn.ensures.joined; learns = c.learn.ensures.learns } in
     subst (λ (x : CallerView). IsLearned part c.side_of-side.result v s c.args.footprint.now x s) (sym m.ensures.caller)
     (learned v.of v w c.args.end.note part versions l s c.args.self.now.locations c.args.self.now.flag c.index.result.now c.args.footprint.now c.args.self.now.early within high c.side_of-side.result s refl (subst (IsSideOf c.side_of-side.result c.args.footprint.now) c.as_slice.ensures.value c.side_of-side.ensures) (record { learns = c.learn.ensures.learns; seen = refl }))
 

@@ -1,6 +1,9 @@
 use Rattle.std.proofs.Common.{◌≡◌}
-use Rattle.kc_lasting.specs.Told.{Moves, standing_of}
+use Rattle.kc_lasting.specs.Told.{AllToldLater, Moves, standing_of}
+use Rattle.kc_xt.specs.Meaning.{limited}
 use Rattle.kc_lasting.proofs.handle.LastingCaller.commit_waiting_into.Given as goal
 
 abbrev pub invariant-tries : goal.invariant-tries
-invariant-tries g l = (goal.iterator-tries g).can_next l.iterator' × (goal.iterator-tries g).is_finite l.iterator' × ((l.self.client.locations ≡ l.fn.self.client.locations) × Moves (standing_of l.fn.self) (standing_of l.self))
+invariant-tries g l =
+    (goal.iterator-tries g).can_next l.iterator' × (goal.iterator-tries g).is_finite l.iterator'
+    × ((l.self.client.locations ≡ l.fn.self.client.locations) × Moves (standing_of l.fn.self) (standing_of l.self) × AllToldLater (limited (g.T.Transact.most l.transaction) (g.T.Transact.meaning l.transaction)) (standing_of l.fn.self) (standing_of l.self))

@@ -1,26 +1,24 @@
-use Rattle.std.specs.Arc.{arc_value}
-use Rattle.std.proofs.Common.{◌∙◌, ap, refl}
+use Rattle.std.proofs.Common.{◌≡◌, ◌∙◌, None, rules, refl, subst}
+use Rattle.std.specs.Prelude.{Option}
 use Rattle.kc_lasting.proofs.Moving.{moves_first, moves_on}
-use Rattle.kc_lasting.proofs.Telling.{reads_so}
-use Rattle.kc_lasting.specs.Told.{HandleView, standing_of}
-use Rattle.kc_store.specs.Views.{CallerView}
+use Rattle.kc_lasting.specs.Told.{LooksOrPasses, passed, standing_of, still}
+use Rattle.kc_model.specs.declared.footprint.Seen.{Seen}
 use Rattle.kc_lasting.proofs.handle.LastingCaller.read.Goals as goal
 
 pub tries-init : goal.tries-init
-tries-init g c = (tt, tt, (refl, moves_first (standing_of c.args.self.now)))
+tries-init g c = (tt, tt, (refl, moves_first (standing_of c.args.self.now), still))
 
-pub returns-then-stands-clause-reads : goal.returns-then-stands-clause-reads
-returns-then-stands-clause-reads g c =
-    let r = c.read-seen in
-    let d : HandleView = record { roll = (arc_value c.tries.self.shared).roll; era = c.stands.new.place.era; lines = c.stands.new.place.page.seen; caller = c.stands.new.client.caller } in
-    reads_so c.args.at.0 r.result (standing_of c.args.self.now) (standing_of c.tries.self) r.new.self.caller d r.new.self.seen.value.own (ap (λ (x : CallerView). x.own) r.ensures.seen ∙ c.tries.self.all) c.tries.invariant.2.1 r.ensures.looks r.ensures.learns c.stands.result c.if-stands.true _ c.stands.ensures.judged
+pub returns-in-Some-look-clause-reads : goal.returns-in-Some-look-clause-reads
+returns-in-Some-look-clause-reads g c = record { last = standing_of c.tries.self; before = c.tries.invariant.2.2; looks = c.in-Some-look.ensures.looks }
 
-pub returns-then-stands-clause-moves : goal.returns-then-stands-clause-moves
-returns-then-stands-clause-moves g c =
-    let d : HandleView = record { roll = (arc_value c.tries.self.shared).roll; era = c.stands.new.place.era; lines = c.stands.new.place.page.seen; caller = c.stands.new.client.caller } in
-    moves_on (standing_of c.args.self.now) (standing_of c.tries.self) d c.tries.invariant.2.1 (record { roll = refl; lines = c.stands.ensures.moves.lines; era = c.stands.ensures.moves.era })
+pub returns-in-Some-look-clause-moves : goal.returns-in-Some-look-clause-moves
+returns-in-Some-look-clause-moves g c = moves_on (standing_of c.args.self.now) (standing_of c.tries.self) (standing_of c.look.new.self) c.tries.invariant.2.1 c.look.ensures.moves
 
 pub tries-preserved : goal.tries-preserved
 tries-preserved g c =
-    let d : HandleView = record { roll = (arc_value c.tries.self.shared).roll; era = c.stands.new.place.era; lines = c.stands.new.place.page.seen; caller = c.stands.new.client.caller } in
-    (tt, tt, (c.stands.ensures.size ∙ c.read-seen.ensures.size ∙ c.tries.invariant.2.0, moves_on (standing_of c.args.self.now) (standing_of c.tries.self) d c.tries.invariant.2.1 (record { roll = refl; lines = c.stands.ensures.moves.lines; era = c.stands.ensures.moves.era })))
+    let none : c.look.result ≡ None = search rules in
+    let a = standing_of c.args.self.now in
+    let b = standing_of c.tries.self in
+    let d = standing_of c.look.new.self in
+    let passes = subst (λ (o : Option Seen). LooksOrPasses c.args.at.0 o b d) none c.look.ensures.looks in
+    (tt, tt, (c.look.ensures.size ∙ c.tries.invariant.2.0, moves_on a b d c.tries.invariant.2.1 c.look.ensures.moves, passed b d c.tries.invariant.2.2 passes))

@@ -1,5 +1,0 @@
-use Rattle.kc_lasting.proofs.Holding.{seen_on}
-use Rattle.kc_lasting.proofs.client.Client.view_into.Goals as goal
-
-pub invariant_of-self-clause-early : goal.invariant_of-self-clause-early
-invariant_of-self-clause-early g c = seen_on _ _ _ c.args.self.now.caller c.view_into.new.caller c.view_into.ensures.remembers.keeps c.args.self.now.early
