@@ -14,3 +14,4 @@ pub mod Moving
 pub mod Firsts
 pub mod Telling
 pub mod Gathering
+pub mod Sent

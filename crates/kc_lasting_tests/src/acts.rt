@@ -4,7 +4,7 @@ ghost use Rattle.std.specs.Prelude.{◌≡◌, ◌≤◌};
 ghost use Rattle.kc_lasting.specs.Told.{standing_of};
 
 use kc_lasting::{LastingCaller, open_at};
-use kc_loc::LocOp;
+use kc_loc::{LocOp, Rel};
 use kc_model::{Footprint, LAST_VERSION, Loc, Reply};
 use kc_store::{Answered, LAST_GENERATION};
 use kc_xt::Transact;
@@ -68,6 +68,15 @@ pub(crate) fn swap<R: Wait>(rt: &R, caller: &mut LastingCaller) -> bool {
     }
     let op = LocOp::Swap(Loc(2), Loc(3));
     caller.commit_into(rt, &op, &mut Footprint::new()) == Answered::Done(Reply::Unit)
+}
+
+/// Whether a value came to stand at a location, for which it waits.
+pub(crate) fn wait_for<R: Wait>(rt: &R, caller: &mut LastingCaller, at: u32, value: u32) -> bool {
+    if caller.locations() <= at {
+        return false;
+    }
+    let op = LocOp::Check(Loc(at), Rel::Eq, value);
+    caller.commit_waiting_into(rt, &op, &mut Footprint::new()) == Answered::Done(Reply::Unit)
 }
 
 /// Whether a value was put at a location.
