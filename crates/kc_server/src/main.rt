@@ -9,7 +9,7 @@ use kc_model::Loc;
 use kc_queue::Queue;
 use kc_shelf::{Pool, Shelf};
 use kc_store::Store;
-use server::{Server, ask, next};
+use server::{Server, Text, ask, next};
 use std::alloc::Global;
 use std::sync::Wait;
 use std::sync::atomic::AtomicUsize;
@@ -46,7 +46,7 @@ fn open(alloc: Global) -> Option<Server> {
 }
 
 // Asks until a slot is free for the text.
-fn ask_on<R: Wait>(rt: &R, server: &Server, number: usize, text: Box<String>) {
+fn ask_on<R: Wait>(rt: &R, server: &Server, number: usize, text: Text) {
     let mut text = text;
     'tries: for _ in rt.forever() {
         match ask(rt, server, number, text) {

@@ -14,10 +14,13 @@ use std::sync::Wait;
 use std::sync::atomic::AtomicUsize;
 use std::time::{Clock, Duration, Instant};
 
+/// What a request says.
+pub type Text = Box<String>;
+
 /// The fact of a text says nothing.
 pub struct Any;
 
-impl Holds<Box<String>> for Any {
+impl Holds<Text> for Any {
     ghost holds = { λ _ _. Unit {0} };
 }
 
@@ -26,7 +29,7 @@ impl Holds<Box<String>> for Any {
 #[derive(Drop)]
 pub struct Server {
     pub callers: Callers,
-    pub texts: Pool<Box<String>, Any>,
+    pub texts: Pool<Text, Any>,
     pub requests: Queue,
     pub asking: AtomicUsize,
     ghost of: { texts.of ≡ callers.store },
@@ -38,12 +41,7 @@ pub struct Server {
 
 /// Puts a text on the shelf and its ticket into the queue, by a caller that is lent for both: whether both are done. Where no slot
 /// is free, the text comes back.
-pub fn ask<R: Wait>(
-    rt: &R,
-    server: &Server,
-    number: usize,
-    text: Box<String>,
-) -> Result<bool, Box<String>>
+pub fn ask<R: Wait>(rt: &R, server: &Server, number: usize, text: Text) -> Result<bool, Text>
     ensures { IfErr result (λ back. back ≡ text) }
 {
     let (mut caller, loan) = server.callers.lend_waiting(rt, number);
@@ -52,12 +50,7 @@ pub fn ask<R: Wait>(
     asked
 }
 
-fn put<R: Wait>(
-    rt: &R,
-    server: &Server,
-    caller: &mut Caller,
-    text: Box<String>,
-) -> Result<bool, Box<String>>
+fn put<R: Wait>(rt: &R, server: &Server, caller: &mut Caller, text: Text) -> Result<bool, Text>
     requires { caller.old.of ≡ server.now.callers.store }
     ensures of { caller.new.of ≡ caller.old.of }
     ensures number { caller.new.number ≡ caller.old.number }
@@ -82,22 +75,16 @@ fn put<R: Wait>(
 }
 
 /// The text of the next request; None where none comes within a millisecond. Meanwhile it has a caller, and then gives it back.
-pub fn next<R: Wait + Clock>(rt: &R, server: &Server, number: usize) -> Option<Box<String>> {
-    let at = Instant::now(rt)
-        .ok()?
-        .checked_add(Duration::from_millis(1))?;
+pub fn next<R: Wait + Clock>(rt: &R, server: &Server, number: usize) -> Option<Text> {
+    let wait = Duration::from_millis(1);
+    let at = Instant::now(rt).ok()?.checked_add(wait)?;
     let (mut caller, loan) = server.callers.lend_waiting(rt, number);
     let text = take(rt, server, &mut caller, &Deadline::new(rt, at));
     server.callers.give(loan, caller);
     text
 }
 
-fn take<R: Wait, L: Limit>(
-    rt: &R,
-    server: &Server,
-    caller: &mut Caller,
-    limit: &L,
-) -> Option<Box<String>>
+fn take<R: Wait, L: Limit>(rt: &R, server: &Server, caller: &mut Caller, limit: &L) -> Option<Text>
     requires { caller.old.of ≡ server.now.callers.store }
     ensures of { caller.new.of ≡ caller.old.of }
     ensures number { caller.new.number ≡ caller.old.number }
@@ -116,12 +103,7 @@ fn take<R: Wait, L: Limit>(
 }
 
 // The only name of a ticket: its text is had, and its slot is free again.
-fn give_up<R: Wait>(
-    rt: &R,
-    server: &Server,
-    caller: &mut Caller,
-    ticket: u32,
-) -> Option<Box<String>>
+fn give_up<R: Wait>(rt: &R, server: &Server, caller: &mut Caller, ticket: u32) -> Option<Text>
     requires caller { caller.old.of ≡ server.now.callers.store }
     requires ticket { IsTicket server.now.texts.shelf ticket }
     ensures of { caller.new.of ≡ caller.old.of }
