@@ -70,7 +70,7 @@ fn main(rt: HostRuntime) -> io::Result<()> {
     }
     let works = Works { sum, numbers };
     let four = open_four(rt.alloc(), layout.values())?;
-    serve(&rt, rt.alloc(), four, works)
+    serve(&rt, four, works)
 }
 
 fn open_four(alloc: Global, values: &[u32]) -> io::Result<Four> {
@@ -92,12 +92,7 @@ fn open_four(alloc: Global, values: &[u32]) -> io::Result<Four> {
     Ok(Four { a, b, c, d })
 }
 
-fn serve<R: Print + Threads + Wait + Sync>(
-    rt: &R,
-    alloc: Global,
-    four: Four,
-    works: Works,
-) -> io::Result<()> {
+fn serve<R: Print + Threads + Wait + Sync>(rt: &R, four: Four, works: Works) -> io::Result<()> {
     let Four { a, b, c, d } = four;
     let ((mut a, b), (c, d)) = join(
         rt,
@@ -105,8 +100,8 @@ fn serve<R: Print + Threads + Wait + Sync>(
         move || by_two(rt, c, d, works),
     );
     let sum = commit(rt, &mut a, &LocOp::Get(works.sum));
-    let others = Vec::from_array(alloc, [b, c, d])?;
-    let all = a.finish(rt, others);
+    let mut others = [b, c, d];
+    let all = a.finish(rt, &mut others);
     println!(rt; "the sum: {sum:?}; all came back: {all}")
 }
 
