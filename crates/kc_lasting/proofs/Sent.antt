@@ -1,6 +1,6 @@
 -- A handle may cross threads, as all that it holds may. What a client remembers of its caller is a `Snapshot`, which has no bytes and
 -- of which no proof is made by itself; so neither is one of what holds a client.
-use denote.Param.Send.{IsSend, IsSync, struct_send, struct_sync, plain_send, plain_sync, recorded_send, recorded_sync}
+use denote.Param.Send.{IsSend, IsSync, struct_send, struct_sync, plain_send, recorded_send, recorded_sync}
 use denote.Struct.Declared.{shape}
 use Rattle.std.proofs.Crossing.{Arc-send, Vec-send, crosses}
 use Rattle.std.proofs.alloc.Global.TheSendSync as heap
@@ -42,12 +42,15 @@ eras : IsSend Eras.the_row
 eras = recorded_send (Eras.the_field).row _ _ (Eras.the_type).to_one (struct_send (shape Eras.the_type) (
   plain_send _ _ _ _ _,
   (
-    page.the_send Line.the_row,
+    plain_send _ _ _ _ _,
     (
-      client,
+      page.the_send Line.the_row,
       (
-        Vec-send (Option.the_row Fresh.the_row) (option.the_send Fresh.the_row fresh),
-        (plain_send _ _ _ _ _, (Vec-send (Option.the_row End.the_row) (option.the_send End.the_row end.the_send), tt)),
+        client,
+        (
+          Vec-send (Option.the_row Fresh.the_row) (option.the_send Fresh.the_row fresh),
+          (plain_send _ _ _ _ _, (Vec-send (Option.the_row End.the_row) (option.the_send End.the_row end.the_send), tt)),
+        ),
       ),
     ),
   ),
@@ -56,13 +59,13 @@ eras = recorded_send (Eras.the_field).row _ _ (Eras.the_type).to_one (struct_sen
 shared_send : IsSend Shared.the_row
 shared_send = recorded_send (Shared.the_field).row _ _ (Shared.the_type).to_one (struct_send (shape Shared.the_type) (
   heap.the_field_send,
-  (holder.the_send Eras.the_row (Roll.the_row Line.the_row) fits eras, (roll.the_send Line.the_row, (plain_send _ _ _ _ _, tt))),
+  (holder.the_send Eras.the_row (Roll.the_row Line.the_row) fits eras, (roll.the_send Line.the_row, tt)),
 ))
 
 shared_sync : IsSync Shared.the_row
 shared_sync = recorded_sync (Shared.the_field).row _ _ (Shared.the_type).to_one (struct_sync (shape Shared.the_type) (
   heap.the_field_sync,
-  (holder.the_sync Eras.the_row (Roll.the_row Line.the_row) fits eras, (roll.the_sync Line.the_row, (plain_sync _ _ _ _ _, tt))),
+  (holder.the_sync Eras.the_row (Roll.the_row Line.the_row) fits eras, (roll.the_sync Line.the_row, tt)),
 ))
 
 pub handle_send : IsSend LastingCaller.the_row

@@ -1,0 +1,6 @@
+use Rattle.std.proofs.Common.{◌≡◌}
+use Rattle.kc_lasting.specs.Told.{standing_of}
+use Rattle.kc_uses_lasting.proofs.add_numbers.Given as goal
+
+abbrev pub invariant-loop : goal.invariant-loop
+invariant-loop g l = (standing_of l.handle).roll ≡ (standing_of l.fn.handle).roll
