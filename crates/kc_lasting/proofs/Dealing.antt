@@ -3,7 +3,6 @@ use Rattle.std.proofs.Common.{◌≡◌, ℕ, zero, suc, ◌+◌, ◌++◌, List
 use Rattle.std.specs.Prelude.{All}
 use Rattle.std.proofs.lemmas.List.Elements.{All-cons}
 use Rattle.kc_lasting.specs.Ends.{IsNewCaller}
-use Rattle.kc_lasting.specs.Kept.{IsKeeper}
 use Rattle.kc_lasting.specs.Opening.{IsFirstClient, callers_of}
 use Rattle.kc_lasting.specs.declared.client.Fresh.{Fresh}
 use Rattle.kc_store.specs.Views.{CallerView, StoreView, opened_caller, opened_callers}

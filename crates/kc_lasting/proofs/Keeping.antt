@@ -1,5 +1,5 @@
 -- The keeper, whose entries put the flag alone.
-use Rattle.std.proofs.Common.{◌≡◌, ◌≢◌, ◌<◌, ◌+◌, ◌++◌, ℕ, List, [], ◌∷◌, Option, None, ap, ◌∙◌, arith, refl, subst, sym}
+use Rattle.std.proofs.Common.{◌≡◌, ◌<◌, ◌+◌, ◌++◌, ℕ, List, [], ◌∷◌, Option, None, ap, ◌∙◌, arith, subst, sym}
 use Rattle.std.proofs.lemmas.List.Elements.{All-nil, All-push, All-same}
 use Rattle.std.specs.Option.{option_map}
 use Rattle.kc_lasting.proofs.Dealing.{last_opened}
@@ -73,9 +73,9 @@ pub keeper_told : (k locations : ℕ) (x : Loc) (v : Verdict) (c d : CallerView)
 keeper_told k locations x v c d f at size r told kept = record {
   last = ap (λ (j : ℕ). j + 1) r.number ∙ kept.last ∙ ap (λ (z : StoreView). z.callers) (sym r.of);
   spares = λ n is.
-    let here : n + 1 ≡ c.of.locations = is ∙ ap (λ (z : StoreView). z.locations) r.of in
-    let same : n ≡ x.0 = omega (arith, here, size, at) in
-    told_spares n (limited k (loc_meaning (op.FetchAdd x 0))) v c d f (subst (λ (j : ℕ). WritesNone j (limited k (loc_meaning (op.FetchAdd x 0)))) (sym same) (flag_alone x k)) told (kept.spares n here);
+      let here : n + 1 ≡ c.of.locations = is ∙ ap (λ (z : StoreView). z.locations) r.of in
+      let same : n ≡ x.0 = omega (arith, here, size, at) in
+      told_spares n (limited k (loc_meaning (op.FetchAdd x 0))) v c d f (subst (λ (j : ℕ). WritesNone j (limited k (loc_meaning (op.FetchAdd x 0)))) (sym same) (flag_alone x k)) told (kept.spares n here);
 }
 
 pub keeper_learns : (c d : CallerView) → OnlyLearns c d → IsKeeper c → IsKeeper d
@@ -88,10 +88,10 @@ keeper_learns c d l kept = record {
 pub keeper_spares : (c : CallerView) (z : StoreView) (history : List Entry) → c.of ≡ z → entries_of c.number history ≡ c.own → IsKeeper c → KeeperSpares z history
 keeper_spares c z history of own kept = record {
   spares = λ k n last flag.
-    let callers = ap (λ (y : StoreView). y.callers) of in
-    let mine = kept.last in
-    let same : c.number ≡ k = omega (arith, callers, mine, last) in
-    subst (λ (j : ℕ). AllSpareFirst n (entries_of j history)) same (subst (AllSpareFirst n) (sym own) (kept.spares n (flag ∙ sym (ap (λ (y : StoreView). y.locations) of))));
+      let callers = ap (λ (y : StoreView). y.callers) of in
+      let mine = kept.last in
+      let same : c.number ≡ k = omega (arith, callers, mine, last) in
+      subst (λ (j : ℕ). AllSpareFirst n (entries_of j history)) same (subst (AllSpareFirst n) (sym own) (kept.spares n (flag ∙ sym (ap (λ (y : StoreView). y.locations) of))));
 }
 
 -- the last that was opened

@@ -32,5 +32,5 @@ loop-caller-preserved c =
       rest_are = All-tail (λ (x : CallerView). x.of ≡ z) c.in-Some.caller c.next.new.self.rest.items rest;
       new = All-tail IsNewCaller c.in-Some.caller c.next.new.self.rest.items new;
       dealt = ap (λ (xs : List Fresh). callers_of xs ++ c.next.new.self.rest.items) items ∙ deal_one c.loop-caller.clients.items c.of.result c.next.new.self.rest.items
-        ∙ ap (λ (x : CallerView). callers_of c.loop-caller.clients.items ++ x ∷ c.next.new.self.rest.items) c.of.ensures.caller ∙ ap (λ (xs : List CallerView). callers_of c.loop-caller.clients.items ++ xs) (sym parts) ∙ inv.dealt;
+          ∙ ap (λ (x : CallerView). callers_of c.loop-caller.clients.items ++ x ∷ c.next.new.self.rest.items) c.of.ensures.caller ∙ ap (λ (xs : List CallerView). callers_of c.loop-caller.clients.items ++ xs) (sym parts) ∙ inv.dealt;
     }
