@@ -1,12 +1,15 @@
 -- Lines of eras: what stands at their front stays, and one more.
-use Rattle.std.proofs.Common.{◌≡◌, ℕ, zero, suc, ◌+◌, List, [], ◌∷◌, ◌++◌, Option, Some, None, ap, length, refl, sym, ◌∙◌, arith, subst}
+use Rattle.std.proofs.Common.{◌≡◌, ℕ, zero, suc, ◌+◌, List, [], ◌∷◌, ◌++◌, Option, Some, None, ap, length, map, refl, sym, ◌∙◌, arith, subst}
+use Rattle.std.proofs.lemmas.List.{length-map}
 use Rattle.std.specs.Prelude.{All}
 use Rattle.kc_lasting.specs.Ends.{EndsEra, IsEraEnd, MayEnd}
-use Rattle.kc_lasting.specs.Eras.{Follow, AreEras, IsEnded, LeavesValues, OpensOn, ended_at, line_after, store_at}
+use Rattle.kc_lasting.specs.Eras.{AllSpareFirst, Follow, AreEras, IsEnded, KeeperSpares, LeavesValues, OpensOn, ended_at, first_line, line_after, store_at}
 use Rattle.kc_lasting.specs.declared.line.End.{End}
 use Rattle.kc_lasting.specs.declared.line.Line.{Line}
 use Rattle.kc_model.specs.declared.footprint.Entry.{Entry}
+use Rattle.kc_model.specs.declared.footprint.Seen.{Seen}
 use Rattle.kc_roll.specs.Fronts.{StandsAtFront}
+use Rattle.kc_store.specs.Knows.{entries_of}
 use Rattle.kc_store.specs.Views.{NoteView, StoreView}
 
 store_front : (a b : List Line) (k : ℕ) (z : StoreView) → store_at a k ≡ Some z → store_at (a ++ b) k ≡ Some z
@@ -42,15 +45,15 @@ ended_last [] l (suc k) e = absurd (omega (arith, e))
 ended_last (x ∷ ls) l zero e = absurd (omega (arith, e))
 ended_last (x ∷ ls) l (suc k) e = ended_last ls l k (omega (arith, e))
 
-follow_more : (l : Line) (ls : List Line) (k : ℕ) (n : NoteView) (z : StoreView) (left : List ℕ) → length ls ≡ k → store_at (l ∷ ls) k ≡ Some n.of → LeavesValues n left → OpensOn left z → z.callers ≡ n.of.callers → Follow l ls → Follow l (ls ++ line_after n z ∷ [])
-follow_more l [] zero n z left e at leaves opens many f = (record { note = n; store = z; left = left; line = refl; of = at; leaves = leaves; opens = opens; many = many }, tt)
-follow_more l [] (suc k) n z left e at leaves opens many f = absurd (omega (arith, e))
-follow_more l (m ∷ ms) zero n z left e at leaves opens many f = absurd (omega (arith, e))
-follow_more l (m ∷ ms) (suc k) n z left e at leaves opens many f = (f.0, follow_more m ms k n z left (omega (arith, e)) at leaves opens many f.1)
+follow_more : (l : Line) (ls : List Line) (k : ℕ) (n : NoteView) (z : StoreView) (left : List ℕ) → length ls ≡ k → store_at (l ∷ ls) k ≡ Some n.of → LeavesValues n left → OpensOn left z → z.callers ≡ n.of.callers → KeeperSpares n.of n.known → Follow l ls → Follow l (ls ++ line_after n z ∷ [])
+follow_more l [] zero n z left e at leaves opens many keeper f = (record { note = n; store = z; left = left; line = refl; of = at; leaves = leaves; opens = opens; many = many; keeper = keeper }, tt)
+follow_more l [] (suc k) n z left e at leaves opens many keeper f = absurd (omega (arith, e))
+follow_more l (m ∷ ms) zero n z left e at leaves opens many keeper f = absurd (omega (arith, e))
+follow_more l (m ∷ ms) (suc k) n z left e at leaves opens many keeper f = (f.0, follow_more m ms k n z left (omega (arith, e)) at leaves opens many keeper f.1)
 
-pub chain_more : (ls : List Line) (k : ℕ) (n : NoteView) (z : StoreView) (left : List ℕ) → length ls ≡ k + 1 → store_at ls k ≡ Some n.of → LeavesValues n left → OpensOn left z → z.callers ≡ n.of.callers → AreEras ls → AreEras (ls ++ line_after n z ∷ [])
-chain_more [] k n z left e at leaves opens many f = absurd f
-chain_more (l ∷ ls) k n z left e at leaves opens many f = follow_more l ls k n z left (omega (arith, e)) at leaves opens many f
+pub chain_more : (ls : List Line) (k : ℕ) (n : NoteView) (z : StoreView) (left : List ℕ) → length ls ≡ k + 1 → store_at ls k ≡ Some n.of → LeavesValues n left → OpensOn left z → z.callers ≡ n.of.callers → KeeperSpares n.of n.known → AreEras ls → AreEras (ls ++ line_after n z ∷ [])
+chain_more [] k n z left e at leaves opens many keeper f = absurd f
+chain_more (l ∷ ls) k n z left e at leaves opens many keeper f = follow_more l ls k n z left (omega (arith, e)) at leaves opens many keeper f
 
 pub store_here : (ls : List Line) (k : ℕ) (n : NoteView) (z : StoreView) → length ls ≡ k → store_at (ls ++ line_after n z ∷ []) k ≡ Some z
 store_here ls k n z e = store_last ls (line_after n z) k e
@@ -91,6 +94,34 @@ as_many_callers [] j k y z never here there = absurd never
 as_many_callers (l ∷ ls) j k y z f here there =
     let (x, first) = first_store l ls j y f here in
     as_many_as_first l ls k x z first f there ∙ sym (as_many_as_first l ls j x y first f here)
+
+-- ---- what the keeper has
+
+as_many_read : (rs : List Seen) (vs : List ℕ) → vs ≡ map (λ (r : Seen). r.value) rs → length vs ≡ length rs
+as_many_read rs vs e = ap length e ∙ length-map rs (λ (r : Seen). r.value)
+
+-- where each store has as many callers and locations as the first, and each history is of the era before
+follow_spares : (l : Line) (ls : List Line) (k : ℕ) (y : StoreView) (history : List Entry) (c n : ℕ) → l.store ≡ Some y → c + 1 ≡ y.callers → n + 1 ≡ y.locations → Follow l ls → (m : NoteView) → ended_at (l ∷ ls) (suc k) ≡ Some m → m.known ≡ history → AllSpareFirst n (entries_of c history)
+follow_spares l [] k y history c n first last flag f m ended known = absurd (cc)
+follow_spares l (x ∷ ls) zero y history c n first last flag f m ended known =
+    let e = f.0 in
+    let is : Some m ≡ Some e.note = sym ended ∙ ap (λ (w : Line). w.ended) e.line in
+    let same : m ≡ e.note = cc in
+    let of : e.note.of ≡ y = same_store l.store e.note.of y e.of first in
+    let all = e.keeper.spares c n (last ∙ sym (ap (λ (w : StoreView). w.callers) of)) (flag ∙ sym (ap (λ (w : StoreView). w.locations) of)) in
+    subst (λ (es : List Entry). AllSpareFirst n (entries_of c es)) (sym (ap (λ (w : NoteView). w.known) same) ∙ known) all
+follow_spares l (x ∷ ls) (suc k) y history c n first last flag f m ended known =
+    let e = f.0 in
+    let of : e.note.of ≡ y = same_store l.store e.note.of y e.of first in
+    let callers = e.many ∙ ap (λ (w : StoreView). w.callers) of in
+    let locations = e.opens.opens.locations ∙ as_many_read e.leaves.cells e.left e.leaves.values_are ∙ e.leaves.cut.all ∙ ap (λ (w : StoreView). w.locations) of in
+    follow_spares x ls k e.store history c n (ap (λ (w : Line). w.store) e.line) (last ∙ sym callers) (flag ∙ sym locations) f.1 m ended known
+
+pub eras_spare : (z : StoreView) (lines : List Line) (c n k : ℕ) (history : List Entry) → StandsAtFront (first_line z ∷ []) lines → AreEras lines → c + 1 ≡ z.callers → n + 1 ≡ z.locations → IsEnded lines k history → AllSpareFirst n (entries_of c history)
+eras_spare z [] c n k history front never last flag e = absurd never
+eras_spare z (l ∷ ls) c n k history (r, is) f last flag e =
+    let first : l ≡ first_line z = cc in
+    follow_spares l ls k z history c n (ap (λ (w : Line). w.store) first) last flag f e.note e.ended e.known
 
 -- ---- how an era ended, as a handle of it knows
 

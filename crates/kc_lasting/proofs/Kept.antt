@@ -4,7 +4,7 @@ use Rattle.std.proofs.lemmas.List.{length-append}
 use Rattle.atomic_table.specs.Seated.{TableId}
 use Rattle.kc_lasting.proofs.Chains.{all_on, chain_more, ended_here, store_here, store_on}
 use Rattle.kc_lasting.specs.Ends.{EndsEra, IsEraEnd}
-use Rattle.kc_lasting.specs.Eras.{AreEras, ended_at, line_after, store_at}
+use Rattle.kc_lasting.specs.Eras.{AreEras, KeeperSpares, ended_at, line_after, store_at}
 use Rattle.kc_lasting.specs.Kept.{ErasKept, IsNextEra}
 use Rattle.kc_lasting.specs.declared.eras.Eras.{Eras}
 use Rattle.kc_lasting.specs.declared.line.End.{End}
@@ -21,9 +21,10 @@ module _ (e : Eras) (x : Next) (page : PageView Line) (roll : TableId) (kept : E
   kept_on = record {
     page = refl;
     long = (let k = kept.long in let w = ap length written in let l = length-append e.page.seen (line_after x.first x.keeper.caller.of ∷ []) in omega (arith, k, w, l));
-    chain = subst AreEras (sym written) (chain_more e.page.seen e.number x.first x.keeper.caller.of next.left kept.long (subst (λ (z : StoreView). store_at e.page.seen e.number ≡ Some z) (sym next.of) kept.last) next.leaves next.opens (next.many ∙ ap (λ (z : StoreView). z.callers) (sym next.of)) kept.chain);
+    chain = subst AreEras (sym written) (chain_more e.page.seen e.number x.first x.keeper.caller.of next.left kept.long (subst (λ (z : StoreView). store_at e.page.seen e.number ≡ Some z) (sym next.of) kept.last) next.leaves next.opens (next.many ∙ ap (λ (z : StoreView). z.callers) (sym next.of)) (subst (λ (z : StoreView). KeeperSpares z x.first.known) (sym next.of) next.spares) kept.chain);
     last = subst (λ (k : ℕ). store_at page.seen k ≡ Some x.keeper.caller.of) (omega arith) (subst (λ (ls : List Line). store_at ls (suc e.number) ≡ Some x.keeper.caller.of) (sym written) (store_here e.page.seen (suc e.number) x.first x.keeper.caller.of count));
     many = next.many ∙ kept.many;
+    keeper = next.keeper;
     fresh = next.fresh;
     ends = all_on e.page.seen page.seen (_, written) e.ended.items kept.ends;
   }

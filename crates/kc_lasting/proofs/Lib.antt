@@ -4,6 +4,7 @@ pub mod Chains
 pub mod Kept
 pub mod Sides
 pub mod Dealing
+pub mod Keeping
 pub mod Putting
 pub mod Early
 pub mod Settled

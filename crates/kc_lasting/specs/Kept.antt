@@ -2,18 +2,23 @@
 use Rattle.std.specs.Prelude.{◌≡◌, ◌≤◌, ℕ, ◌+◌, List, Option, Some, None, All, length}
 use Rattle.atomic_table.specs.Seated.{TableId}
 use Rattle.kc_lasting.specs.Ends.{IsEraEnd, MayEnd}
-use Rattle.kc_lasting.specs.Eras.{AreEras, LeavesValues, OpensOn, store_at}
+use Rattle.kc_lasting.specs.Eras.{AllSpareFirst, AreEras, KeeperSpares, LeavesValues, OpensOn, store_at}
 use Rattle.kc_lasting.specs.declared.client.Fresh.{Fresh}
 use Rattle.kc_lasting.specs.declared.eras.Eras.{Eras}
 use Rattle.kc_lasting.specs.declared.renewing.Next.{Next}
 use Rattle.kc_lasting.specs.declared.shared.Place.{Place}
 use Rattle.kc_roll.specs.Fronts.{StandsAtFront}
-use Rattle.kc_store.specs.Views.{StoreView}
+use Rattle.kc_store.specs.Views.{CallerView, StoreView}
 
 -- it is of this store, if nobody has taken it
 abbrev pub MayBeFresh : StoreView → Option Fresh → Type 0
 MayBeFresh z None = Unit {0}
 MayBeFresh z (Some x) = x.client.caller.of ≡ z
+
+-- it is the last caller of its store, and none of its entries puts a location before the flag
+pub record IsKeeper (c : CallerView) : Type 0 where
+  pub last : c.number + 1 ≡ c.of.callers
+  pub spares : (n : ℕ) → n + 1 ≡ c.of.locations → AllSpareFirst n c.own
 
 -- the roll has a line for each era, and they are a chain; the keeper and the clients are of the last one, whose store has so many callers
 pub record ErasKept (roll : TableId) (e : Eras) : Type 0 where
@@ -22,6 +27,7 @@ pub record ErasKept (roll : TableId) (e : Eras) : Type 0 where
   pub chain : AreEras e.page.seen
   pub last : store_at e.page.seen e.number ≡ Some e.keeper.caller.of
   pub many : e.keeper.caller.of.callers ≡ e.callers
+  pub keeper : IsKeeper e.keeper.caller
   pub fresh : All (MayBeFresh e.keeper.caller.of) e.clients.items
   pub ends : All (MayEnd e.page.seen) e.ended.items
 
@@ -35,12 +41,14 @@ pub record MovesOn (p q : Place) : Type 0 where
   pub lines : StandsAtFront p.page.seen q.page.seen
   pub era : p.era ≤ q.era
 
--- the store was cut off, and one with as many callers was opened with what stood there
+-- the store was cut off, whose keeper had put its flag alone, and one with as many callers was opened with what stood there
 pub record IsNextEra (z : StoreView) (x : Next) : Type 0 where
   pub of : x.first.of ≡ z
   pub left : List ℕ
   pub leaves : LeavesValues x.first left
   pub opens : OpensOn left x.keeper.caller.of
   pub many : x.keeper.caller.of.callers ≡ z.callers
+  pub spares : KeeperSpares z x.first.known
+  pub keeper : IsKeeper x.keeper.caller
   pub end : IsEraEnd z x.last x.first.known x.versions.items
   pub fresh : All (MayBeFresh x.keeper.caller.of) x.clients.items

@@ -1,12 +1,12 @@
 -- A store that lasts as it opens.
-use Rattle.std.specs.Prelude.{◌≡◌, ℕ, ◌+◌, ◌++◌, List, [], ◌∷◌, All, length}
+use Rattle.std.specs.Prelude.{◌≡◌, ℕ, ◌+◌, ◌++◌, List, [], ◌∷◌, All, length, map}
 use Rattle.atomic_table.specs.Seated.{TableId}
 use Rattle.kc_lasting.specs.Eras.{first_line}
 use Rattle.kc_lasting.specs.declared.client.Fresh.{Fresh}
 use Rattle.kc_lasting.specs.declared.handle.LastingCaller.{LastingCaller}
 use Rattle.std.specs.Arc.{arc_value}
 use Rattle.kc_store.specs.Knows.{OpensWith}
-use Rattle.kc_store.specs.Views.{StoreView}
+use Rattle.kc_store.specs.Views.{CallerView, StoreView}
 
 -- a handle of the first era, which has this store: it has committed nothing, and knows of no other era
 pub record IsFirst (roll : TableId) (z : StoreView) (h : LastingCaller) : Type 0 where
@@ -29,3 +29,6 @@ pub record OpensLasting (values versions : List ℕ) (callers : ℕ) (hs : List 
 pub record IsFirstClient (z : StoreView) (c : Fresh) : Type 0 where
   pub of : c.client.caller.of ≡ z
   pub locations : z.locations ≡ c.client.locations + 1
+
+abbrev pub callers_of : List Fresh → List CallerView
+callers_of xs = map (λ (x : Fresh). x.client.caller) xs

@@ -4,7 +4,7 @@ ghost use Rattle.std.specs.Prelude.{◌≡◌, ◌<◌, true, length};
 ghost use Rattle.kc_hang.specs.kc_table_moves.Origins.{opening_of};
 ghost use Rattle.kc_hang.specs.kc_table_views.Known.{IsPrefix, known};
 ghost use Rattle.kc_lasting.specs.Cuts.{AllFrom, IsCut, IsKnownAt, IsLastAt, LooksOnceAt};
-ghost use Rattle.kc_store.specs.Knows.{OnlyLearns};
+ghost use Rattle.kc_store.specs.Knows.{OnlyLearns, entries_of};
 ghost use Rattle.kc_store.specs.kc_machine_traces.Histories.{entries};
 ghost use Rattle.kc_store.specs.kc_table_laws.Tasks.{KeepsKnown};
 
@@ -30,6 +30,7 @@ pub(crate) fn cut<R: Wait>(
     ensures shows { result.known ≡ entries (known (opening_of store.now.table.origin) result.note.past) }
     ensures past { IsPrefix result.note.past caller.new.seat.past }
     ensures cut { IsCut store.now result.known cells.new }
+    ensures own { entries_of caller.old.number result.known ≡ caller.old.own }
 {
     'rounds: for _ in rt.forever() {
         read_all(rt, store, caller, cells, locations);

@@ -29,5 +29,5 @@ mod waiting;
 
 pub use caller::Attempt;
 pub use handle::LastingCaller;
-pub use laws::one_put_tells_the_side;
+pub use laws::{keepers_put_the_flag_alone, one_put_tells_the_side};
 pub use opening::{open, open_at};

@@ -2,16 +2,17 @@
 
 ghost use Rattle.std.specs.Prelude.{◌≡◌, ◌<◌, ◌≤◌, ◌+◌, ◌-◌, ◌^◌, ◌++◌, ◌≢◌, ℕ, List, Some, [], ◌∷◌, length, map, true, false, All, IfOk, IfSome};
 ghost use Rattle.kc_lasting.specs.Cuts.{IsCut};
-ghost use Rattle.kc_lasting.specs.Eras.{OpensOn, first_line, line_after, store_at};
+ghost use Rattle.kc_lasting.specs.Eras.{KeeperSpares, OpensOn, first_line, line_after, store_at};
 ghost use Rattle.kc_lasting.specs.Ends.{EndsEra, IsEraEnd, IsNewCaller};
-ghost use Rattle.kc_lasting.specs.Kept.{ErasKept, IsNextEra, MayBeFresh};
-ghost use Rattle.kc_lasting.specs.Opening.{IsFirstClient};
+ghost use Rattle.kc_lasting.specs.Kept.{ErasKept, IsKeeper, IsNextEra, MayBeFresh};
+ghost use Rattle.kc_lasting.specs.Opening.{IsFirstClient, callers_of};
 ghost use Rattle.kc_lasting.specs.Settled.{IsSettled};
 ghost use Rattle.kc_lasting.specs.declared.settling.Side.TheVariants as side;
 ghost use Rattle.kc_lasting.specs.Eras.{IsEnded};
 ghost use Rattle.kc_model.specs.declared.footprint.Seen.{Seen as SeenView};
 ghost use Rattle.kc_model.specs.declared.plain_store.TheConstants.{MOST_LOCATIONS};
 ghost use Rattle.kc_roll.specs.Fronts.{StandsAtFront};
+ghost use Rattle.kc_store.specs.Views.{opened_callers};
 
 use crate::client::{Client, Fresh};
 use crate::cutting::cut;
@@ -255,6 +256,8 @@ impl Client {
     // Cuts its era off, and opens a store on what stood at the cut.
     fn next<R: Wait>(&mut self, rt: &R, alloc: Global, callers: u32) -> Result<Next, OpenError>
         requires callers { self.old.caller.of.callers ≡ callers }
+        requires keeper { IsKeeper self.old.caller }
+        ensures keeper { IsKeeper self.new.caller }
         ensures of { self.new.caller.of ≡ self.old.caller.of }
         ensures next { IfOk result (λ x. IsNextEra self.old.caller.of x) }
     {
@@ -276,6 +279,9 @@ impl Client {
     // Puts the flag, and finds what stands at one moment behind that. Answers what it knew then, and what it knows now.
     fn cut_off<R: Wait>(&mut self, rt: &R, cells: &mut [Seen]) -> (Note, Note)
         requires size { length cells.old ≡ self.old.locations + 1 }
+        requires keeper { IsKeeper self.old.caller }
+        ensures keeper { IsKeeper self.new.caller }
+        ensures spares { KeeperSpares self.old.caller.of result.0.known }
         ensures size { length cells.new ≡ length cells.old }
         ensures of { self.new.caller.of ≡ self.old.caller.of }
         ensures note { result.0.of ≡ self.old.caller.of }
@@ -327,6 +333,7 @@ fn opened(
     requires flag { 0 < length values.now }
     ensures opens { IfOk result (λ r. OpensOn values.now r.0.caller.of) }
     ensures callers { IfOk result (λ r. r.0.caller.of.callers ≡ callers) }
+    ensures keeper { IfOk result (λ r. IsKeeper r.0.caller) }
     ensures fresh { IfOk result (λ r. All (MayBeFresh r.0.caller.of) r.1.items) }
 {
     let (store, dealt) = Store::open(alloc, values, callers)?;
@@ -368,6 +375,7 @@ pub(crate) fn deal(
     requires few { locations < MOST_LOCATIONS }
     ensures of { IfOk result (λ v. All (IsFirstClient store) v.items) }
     ensures count { IfOk result (λ v. length v.items ≡ length callers.items) }
+    ensures dealt { IfOk result (λ v. callers_of v.items ≡ callers.items) }
 {
     let era = Arc::new(alloc, Era::on(store))?;
     let mut clients = Vec::with_capacity(alloc, callers.len())?;
@@ -388,6 +396,7 @@ pub(crate) fn first_of(
 ) -> Result<(Roll<Line>, Eras, Vec<Fresh>), AllocError>
     requires of { All (λ c. c.of ≡ store) callers.items }
     requires many { (store.callers ≡ taken + 1) × (taken ≤ 63) }
+    requires dealt { callers.items ≡ opened_callers store 0 (taken + 1) }
     requires new { All IsNewCaller callers.items }
     requires size { store.locations ≡ locations + 1 }
     requires few { locations < MOST_LOCATIONS }

@@ -1,9 +1,11 @@
-use Rattle.std.proofs.Common.{◌≡◌, ◌∙◌, ℕ, ◌+◌, [], ◌∷◌, ◌++◌, ap, arith, length, rules, sym}
+use Rattle.std.proofs.Common.{◌≡◌, ◌∙◌, ℕ, List, ◌+◌, [], ◌∷◌, ◌++◌, ap, arith, length, rules, sym}
 use Rattle.std.proofs.lemmas.List.{length-append}
 use Rattle.std.specs.Prelude.{All}
 use Rattle.std.proofs.lemmas.List.Elements.{All-head, All-push, All-same, All-tail}
+use Rattle.kc_lasting.proofs.Dealing.{deal_one}
 use Rattle.kc_lasting.specs.Ends.{IsNewCaller}
-use Rattle.kc_lasting.specs.Opening.{IsFirstClient}
+use Rattle.kc_lasting.specs.Opening.{IsFirstClient, callers_of}
+use Rattle.kc_lasting.specs.declared.client.Fresh.{Fresh}
 use Rattle.kc_store.specs.Views.{CallerView}
 use Rattle.kc_lasting.proofs.renewing.deal.Goals as goal
 
@@ -29,4 +31,6 @@ loop-caller-preserved c =
       given_are = All-same (IsFirstClient z) _ _ items (All-push (IsFirstClient z) c.loop-caller.clients.items c.of.result inv.given_are first);
       rest_are = All-tail (λ (x : CallerView). x.of ≡ z) c.in-Some.caller c.next.new.self.rest.items rest;
       new = All-tail IsNewCaller c.in-Some.caller c.next.new.self.rest.items new;
+      dealt = ap (λ (xs : List Fresh). callers_of xs ++ c.next.new.self.rest.items) items ∙ deal_one c.loop-caller.clients.items c.of.result c.next.new.self.rest.items
+          ∙ ap (λ (x : CallerView). callers_of c.loop-caller.clients.items ++ x ∷ c.next.new.self.rest.items) c.of.ensures.caller ∙ ap (λ (xs : List CallerView). callers_of c.loop-caller.clients.items ++ xs) (sym parts) ∙ inv.dealt;
     }

@@ -2,6 +2,7 @@ use Rattle.std.proofs.Common.{◌≡◌, ◌∙◌, List, Some, ap, subst, sym}
 use Rattle.std.specs.Prelude.{All}
 use Rattle.std.proofs.lemmas.List.Elements.{All-pop}
 use Rattle.kc_lasting.proofs.Dealing.{all_new, all_opened, all_of}
+use Rattle.kc_lasting.proofs.Keeping.{keeper_opened}
 use Rattle.kc_lasting.specs.Ends.{IsNewCaller}
 use Rattle.kc_lasting.specs.Eras.{OpensOn}
 use Rattle.kc_lasting.specs.Opening.{IsFirstClient}
@@ -31,3 +32,9 @@ returns-clause-callers c =
     let z = c.in_ok-store.store in
     let kept = (All-pop (IsFirstClient z) c.in_ok-clients.clients.items c.pop.new.self.items (Some c.in-Some.fresh) c.in-Some.ensures.items c.in_ok-clients.ensures.of).1 in
     ap (λ (y : StoreView). y.callers) kept.of ∙ c.in_ok-store.ensures.opens.callers_are
+
+pub returns-clause-keeper : goal.returns-clause-keeper
+returns-clause-keeper c =
+    let z = c.in_ok-store.store in
+    let kept = (All-pop (IsFirstClient z) c.in_ok-clients.clients.items c.pop.new.self.items (Some c.in-Some.fresh) c.in-Some.ensures.items c.in_ok-clients.ensures.of).1 in
+    keeper_opened z c.pop.new.self.items c.in_ok-clients.clients.items c.in-Some.fresh c.args.callers kept.of c.in_ok-store.ensures.opens.callers_are c.in-Some.ensures.items (c.in_ok-clients.ensures.dealt ∙ c.in_ok-store.ensures.ok.1)

@@ -17,6 +17,8 @@ returns-clause-next g c =
       leaves = record { cells = c.cut_off-first.new.cells; cut = c.cut_off-first.ensures.cut; values_are = values };
       opens = search rules;
       many = c.in_ok-keeper.ensures.callers ∙ sym c.requires.callers;
+      spares = c.cut_off-first.ensures.spares;
+      keeper = c.in_ok-keeper.ensures.keeper;
       end = c.cut_off-first.ensures.end c.in_ok-versions.versions.items is;
       fresh = search rules;
     }
