@@ -1,0 +1,4 @@
+pub mod Raised
+pub mod Throughout
+pub mod Stepping
+pub mod Owning
