@@ -79,10 +79,16 @@ lies_behind v w n j =
     let meant : IsMeant (opening_at_seat w) w.past = subst (λ (z : TableView). IsMeant (opening_of z.origin) w.past) (sym j.learns.of) j.learns.meant in
     All-map (λ (e : Entry). IsBelow (opening_at_seat w).locations e.footprint) (λ (x : Placed). x.entry) (knows w) (λ k d lt. (known_lie (opening_at_seat w) w.past meant.0 k d lt).reads)
 
+-- and of its callers alone
+pub callers_behind : (v w : SeatView) (n : TableNoteView) → Joined v n w → All (λ (e : Entry). e.caller < (opening_at_seat w).callers) (entries (knows w))
+callers_behind v w n j =
+    let meant : IsMeant (opening_at_seat w) w.past = subst (λ (z : TableView). IsMeant (opening_of z.origin) w.past) (sym j.learns.of) j.learns.meant in
+    All-map (λ (e : Entry). e.caller < (opening_at_seat w).callers) (λ (x : Placed). x.entry) (knows w) (whole (opening_at_seat w) w.past meant).of_callers
+
 pub is_cut : (w : SeatView) (z : StoreView) (es : List Entry) (cells : List Seen) → z ≡ store_view w.of → es ≡ entries (knows w) → length cells ≡ z.locations
-    → IsLegal (first_store (opening_at_seat w)) (entries (knows w)) (ending_store (first_store (opening_at_seat w)) (knows w)) → All (λ (e : Entry). IsBelow (opening_at_seat w).locations e.footprint) (entries (knows w)) → AllFrom (IsKnownAt w) 0 cells → AllFrom (IsLastAt w) 0 cells → IsCut z es cells
-is_cut w z es cells of is all legal lies known last =
-    let at : IsCut (store_view w.of) (entries (knows w)) cells = record { legal = legal; lies = lies; all = all ∙ ap (λ (z : StoreView). z.locations) of; stands = all_both (IsKnownAt w) (IsLastAt w) _ (stands_at w) 0 cells known last } in
+    → IsLegal (first_store (opening_at_seat w)) (entries (knows w)) (ending_store (first_store (opening_at_seat w)) (knows w)) → All (λ (e : Entry). IsBelow (opening_at_seat w).locations e.footprint) (entries (knows w)) → All (λ (e : Entry). e.caller < (opening_at_seat w).callers) (entries (knows w)) → AllFrom (IsKnownAt w) 0 cells → AllFrom (IsLastAt w) 0 cells → IsCut z es cells
+is_cut w z es cells of is all legal lies callers known last =
+    let at : IsCut (store_view w.of) (entries (knows w)) cells = record { legal = legal; lies = lies; nobody_else = callers; all = all ∙ ap (λ (z : StoreView). z.locations) of; stands = all_both (IsKnownAt w) (IsLastAt w) _ (stands_at w) 0 cells known last } in
     subst (λ (z : StoreView). IsCut z es cells) (sym of) (subst (λ (es : List Entry). IsCut (store_view w.of) es cells) (sym is) at)
 
 -- ---- while one looks

@@ -1,6 +1,6 @@
 use Rattle.std.proofs.Common.{◌≡◌, ◌∙◌, List, ap, length, refl, subst, sym}
 use Rattle.kc_hang.proofs.kc_table_laws.Keeping.{loads_keep}
-use Rattle.kc_lasting.proofs.Looked.{all_then, is_cut, known_on, legal_behind, lies_behind}
+use Rattle.kc_lasting.proofs.Looked.{all_then, callers_behind, is_cut, known_on, legal_behind, lies_behind}
 use Rattle.kc_lasting.specs.Cuts.{AllFrom, IsKnownAt, IsLastAt}
 use Rattle.kc_store.proofs.Remembering.{learns_on, learns_same}
 use Rattle.kc_store.specs.Knows.{OnlyLearns}
@@ -42,7 +42,7 @@ returns-then-all_stand-clause-cut g c =
     let was : AllFrom (IsKnownAt c.note-hint.new.caller.seat) 0 cells = subst (λ (x : CallerView). AllFrom (IsKnownAt x.seat) 0 cells) (sym hc) c.read_all.ensures.known in
     let known = all_then (IsKnownAt c.note-hint.new.caller.seat) (IsKnownAt l.seat) (known_on c.note-hint.new.caller.seat l.seat kept) 0 cells was in
     let last : AllFrom (IsLastAt l.seat) 0 cells = subst (λ (x : CallerView). AllFrom (IsLastAt x.seat) 0 cells) nc (c.all_stand.ensures.last c.if-all_stand.true) in
-    is_cut l.seat c.args.store.now c.note-note.result.known cells of is all (legal_behind c.note-hint.new.caller.seat l.seat _ c.learn.ensures.joined) (lies_behind c.note-hint.new.caller.seat l.seat _ c.learn.ensures.joined) known last
+    is_cut l.seat c.args.store.now c.note-note.result.known cells of is all (legal_behind c.note-hint.new.caller.seat l.seat _ c.learn.ensures.joined) (lies_behind c.note-hint.new.caller.seat l.seat _ c.learn.ensures.joined) (callers_behind c.note-hint.new.caller.seat l.seat _ c.learn.ensures.joined) known last
 
 pub rounds-preserved : goal.rounds-preserved
 rounds-preserved g c =
