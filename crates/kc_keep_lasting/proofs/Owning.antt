@@ -1,5 +1,5 @@
 -- Own entries of these meanings alone.
-use Rattle.std.proofs.Common.{◌≡◌, ◌⊎◌, ℕ, Bool, true, false, inl, inr, List, [], ◌∷◌, sym, subst}
+use Rattle.std.proofs.Common.{◌≡◌, ◌⊎◌, ℕ, Bool, true, false, inl, inr, List, [], ◌∙◌, sym, subst}
 use Rattle.std.specs.Prelude.{All}
 use Rattle.std.proofs.lemmas.List.Elements.{All-cons, All-head, All-nil, All-tail}
 use Rattle.kc_keep.specs.Only.{CommitsOnly, HasOnly, IsEntryOfThese, IsOfThese, OfMeanings}
@@ -35,8 +35,8 @@ module _ (is_one : Meaning → Type 0) where
     pub has_told : (a : Verdict) (c : HandleView) (f : Footprint) (d : HandleView) → HasOnly is_one c.caller → ToldSo (limited n m) a c f d → HasOnly is_one d.caller
     has_told a c f d has so = go so.counts
       where
-        go : Counts (ends_with c d) c.caller.own so.behind f d.caller → HasOnly is_one d.caller
-        go (inl learns) = subst (OfMeanings is_one) (sym learns.own) (has_still is_one c.caller so.behind has (told_only n m a c.caller f so.behind one so.told))
+        go : Counts (ends_with c d) c.confirmed so.behind f d.caller d.confirmed → HasOnly is_one d.caller
+        go (inl on) = subst (OfMeanings is_one) (sym (on.1.own ∙ on.0.own)) (has_still is_one c.caller so.behind has (told_only n m a c.caller f so.behind one so.told))
         go (inr over) = has_none d.caller over.0.none
 
     has_all_in_vain : (c d : HandleView) → HasOnly is_one c.caller → AllInVain (limited n m) c d → HasOnly is_one d.caller

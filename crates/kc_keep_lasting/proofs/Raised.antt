@@ -1,5 +1,5 @@
 -- With its versions raised an entry leaves the values that it leaves else.
-use Rattle.std.proofs.Common.{◌≡◌, ◌==◌, ℕ, zero, suc, ◌-◌, Bool, true, false, cond, List, [], ◌∷◌, map, refl, sym, ap, arith}
+use Rattle.std.proofs.Common.{◌≡◌, ◌==◌, ℕ, zero, suc, ◌-◌, Bool, true, false, cond, List, [], ◌∷◌, map, refl, ap, arith}
 use Rattle.std.specs.Prelude.{Contains, Some}
 use Rattle.std.proofs.Math.Path.{fun_ext}
 use Rattle.kc_lasting_laws.specs.Raised.{footprint_raised, put_raised, read_raised}

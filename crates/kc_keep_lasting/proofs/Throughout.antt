@@ -16,7 +16,7 @@ use Rattle.kc_model.specs.Store.{Finds, Store, after, cell_after}
 use Rattle.kc_model.specs.declared.footprint.Entry.{Entry}
 use Rattle.kc_model.specs.declared.footprint.Footprint.{Footprint}
 use Rattle.kc_model.specs.declared.footprint.Put.{Put}
-use Rattle.kc_store.specs.Views.{NoteView, StoreView}
+use Rattle.kc_store.specs.Views.{NoteView}
 use Rattle.kc_xt.specs.Meaning.{Meaning, values}
 
 -- ---- entries whose versions are raised

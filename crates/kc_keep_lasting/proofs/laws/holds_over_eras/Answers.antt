@@ -1,4 +1,4 @@
-use Rattle.std.proofs.Common.{◌<◌, ℕ, [], append-nil, sym, ap, arith}
+use Rattle.std.proofs.Common.{[], append-nil, sym, ap, arith}
 use Rattle.std.proofs.lemmas.List.Elements.{All-append}
 use Rattle.kc_keep_lasting.proofs.Throughout.{IsRaisedOf, all_raised, of_eras, raised_throughout}
 use Rattle.kc_lasting.specs.Cuts.{left_by}
