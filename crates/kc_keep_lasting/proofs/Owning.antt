@@ -16,7 +16,7 @@ use Rattle.kc_store.specs.declared.verdict.Answered.{Answered}
 use Rattle.kc_store.specs.declared.verdict.Verdict.{Verdict}
 use Rattle.kc_xt.specs.Meaning.{Meaning, limited}
 
-all_within : (P : Entry → Type 0) {a b : List Entry} → IsWithin a b → All P b → All P a
+pub all_within : (P : Entry → Type 0) {a b : List Entry} → IsWithin a b → All P b → All P a
 all_within P nothing all = All-nil P
 all_within P (here {e = x} {a = a} {b = b} w) all = All-cons P x a (All-head P x b all) (all_within P w (All-tail P x b all))
 all_within P (later {e = x} {b = b} w) all = all_within P w (All-tail P x b all)

@@ -1,1 +1,2 @@
 pub mod Eras
+pub mod Served
