@@ -1,5 +1,5 @@
 -- Lines of eras: what stands at their front stays, and one more.
-use Rattle.std.proofs.Common.{◌≡◌, ℕ, zero, suc, ◌+◌, List, [], ◌∷◌, ◌++◌, Option, Some, None, length, refl, sym, ◌∙◌, arith, subst}
+use Rattle.std.proofs.Common.{◌≡◌, ℕ, zero, suc, ◌+◌, List, [], ◌∷◌, ◌++◌, Option, Some, None, ap, length, refl, sym, ◌∙◌, arith, subst}
 use Rattle.std.specs.Prelude.{All}
 use Rattle.kc_lasting.specs.Ends.{EndsEra, IsEraEnd, MayEnd}
 use Rattle.kc_lasting.specs.Eras.{Follow, AreEras, IsEnded, LeavesValues, OpensOn, ended_at, line_after, store_at}
@@ -42,15 +42,15 @@ ended_last [] l (suc k) e = absurd (omega (arith, e))
 ended_last (x ∷ ls) l zero e = absurd (omega (arith, e))
 ended_last (x ∷ ls) l (suc k) e = ended_last ls l k (omega (arith, e))
 
-follow_more : (l : Line) (ls : List Line) (k : ℕ) (n : NoteView) (z : StoreView) (left : List ℕ) → length ls ≡ k → store_at (l ∷ ls) k ≡ Some n.of → LeavesValues n left → OpensOn left z → Follow l ls → Follow l (ls ++ line_after n z ∷ [])
-follow_more l [] zero n z left e at leaves opens f = (record { note = n; store = z; left = left; line = refl; of = at; leaves = leaves; opens = opens }, tt)
-follow_more l [] (suc k) n z left e at leaves opens f = absurd (omega (arith, e))
-follow_more l (m ∷ ms) zero n z left e at leaves opens f = absurd (omega (arith, e))
-follow_more l (m ∷ ms) (suc k) n z left e at leaves opens f = (f.0, follow_more m ms k n z left (omega (arith, e)) at leaves opens f.1)
+follow_more : (l : Line) (ls : List Line) (k : ℕ) (n : NoteView) (z : StoreView) (left : List ℕ) → length ls ≡ k → store_at (l ∷ ls) k ≡ Some n.of → LeavesValues n left → OpensOn left z → z.callers ≡ n.of.callers → Follow l ls → Follow l (ls ++ line_after n z ∷ [])
+follow_more l [] zero n z left e at leaves opens many f = (record { note = n; store = z; left = left; line = refl; of = at; leaves = leaves; opens = opens; many = many }, tt)
+follow_more l [] (suc k) n z left e at leaves opens many f = absurd (omega (arith, e))
+follow_more l (m ∷ ms) zero n z left e at leaves opens many f = absurd (omega (arith, e))
+follow_more l (m ∷ ms) (suc k) n z left e at leaves opens many f = (f.0, follow_more m ms k n z left (omega (arith, e)) at leaves opens many f.1)
 
-pub chain_more : (ls : List Line) (k : ℕ) (n : NoteView) (z : StoreView) (left : List ℕ) → length ls ≡ k + 1 → store_at ls k ≡ Some n.of → LeavesValues n left → OpensOn left z → AreEras ls → AreEras (ls ++ line_after n z ∷ [])
-chain_more [] k n z left e at leaves opens f = absurd f
-chain_more (l ∷ ls) k n z left e at leaves opens f = follow_more l ls k n z left (omega (arith, e)) at leaves opens f
+pub chain_more : (ls : List Line) (k : ℕ) (n : NoteView) (z : StoreView) (left : List ℕ) → length ls ≡ k + 1 → store_at ls k ≡ Some n.of → LeavesValues n left → OpensOn left z → z.callers ≡ n.of.callers → AreEras ls → AreEras (ls ++ line_after n z ∷ [])
+chain_more [] k n z left e at leaves opens many f = absurd f
+chain_more (l ∷ ls) k n z left e at leaves opens many f = follow_more l ls k n z left (omega (arith, e)) at leaves opens many f
 
 pub store_here : (ls : List Line) (k : ℕ) (n : NoteView) (z : StoreView) → length ls ≡ k → store_at (ls ++ line_after n z ∷ []) k ≡ Some z
 store_here ls k n z e = store_last ls (line_after n z) k e
@@ -70,6 +70,27 @@ may_end_on a b p (Some x) m = record {
 
 pub all_on : (a b : List Line) → StandsAtFront a b → (xs : List (Option End)) → All (MayEnd a) xs → All (MayEnd b) xs
 all_on a b p xs all i d lt = may_end_on a b p _ (all i d lt)
+
+-- ---- how many callers
+
+first_store : (l : Line) (ls : List Line) (k : ℕ) (z : StoreView) → Follow l ls → store_at (l ∷ ls) k ≡ Some z → (y : StoreView) × (l.store ≡ Some y)
+first_store l ls zero z f at = (z, at)
+first_store l [] (suc k) z f at = absurd (cc)
+first_store l (m ∷ ms) (suc k) z f at = (f.0.note.of, f.0.of)
+
+as_many_as_first : (l : Line) (ls : List Line) (k : ℕ) (y z : StoreView) → l.store ≡ Some y → Follow l ls → store_at (l ∷ ls) k ≡ Some z → z.callers ≡ y.callers
+as_many_as_first l ls zero y z first f at = ap (λ (w : StoreView). w.callers) (same_store l.store z y at first)
+as_many_as_first l [] (suc k) y z first f at = absurd (cc)
+as_many_as_first l (m ∷ ms) (suc k) y z first f at =
+    let e = f.0 in
+    let of : e.note.of ≡ y = same_store l.store e.note.of y e.of first in
+    as_many_as_first m ms k e.store z (ap (λ (x : Line). x.store) e.line) f.1 at ∙ e.many ∙ ap (λ (w : StoreView). w.callers) of
+
+pub as_many_callers : (lines : List Line) (j k : ℕ) (y z : StoreView) → AreEras lines → store_at lines j ≡ Some y → store_at lines k ≡ Some z → z.callers ≡ y.callers
+as_many_callers [] j k y z never here there = absurd never
+as_many_callers (l ∷ ls) j k y z f here there =
+    let (x, first) = first_store l ls j y f here in
+    as_many_as_first l ls k x z first f there ∙ sym (as_many_as_first l ls j x y first f here)
 
 -- ---- how an era ended, as a handle of it knows
 

@@ -35,14 +35,14 @@ stands_back : (part : List Entry) (s b c : CallerView) → OnlyLearns b c → St
 stands_back part s b c l x = subst (λ (z : StoreView). StandsBefore z b.number b.own s part) l.remembers.of (subst (λ (k : ℕ). StandsBefore c.of k b.own s part) l.remembers.number (subst (λ (es : List Entry). StandsBefore c.of c.number es s part) l.own x))
 
 pub over_back : (p : List Entry → Type 0) (s b c d t : CallerView) → OnlyLearns b c → GoesOver p s c d t → GoesOver p s b d t
-over_back p s b c d t l g = record { part = g.part; there = g.there; stands = ∥∥₁_map g.stands (stands_back g.part s b c l); none = g.none; new = g.new }
+over_back p s b c d t l g = record { part = g.part; there = g.there; stands = ∥∥₁_map g.stands (stands_back g.part s b c l); many = g.many ∙ ap (λ (z : StoreView). z.callers) l.remembers.of; none = g.none; new = g.new }
 
 -- ---- over a cut
 
 -- of a caller that had been confirmed at s, and found its side
-module _ (p : List Entry → Type 0) (c s d t : CallerView) (f : Footprint) (none : d.own ≡ []) (new : t ≡ d) (part : List Entry) (there : p part) (stands : ∥ StandsBefore c.of c.number c.own s part ∥₁) where
+module _ (p : List Entry → Type 0) (c s d t : CallerView) (f : Footprint) (many : d.of.callers ≡ c.of.callers) (none : d.own ≡ []) (new : t ≡ d) (part : List Entry) (there : p part) (stands : ∥ StandsBefore c.of c.number c.own s part ∥₁) where
   abbrev goes_over : GoesOver p s c d t
-  goes_over = record { part = part; there = there; stands = stands; none = none; new = new }
+  goes_over = record { part = part; there = there; stands = stands; many = many; none = none; new = new }
 
   pub crosses_before : CountsIn part s.own c f → (g : GoesOver p s c d t) × CountsIn g.part s.own c f
   crosses_before counts = (goes_over, counts)
@@ -82,6 +82,7 @@ module _ (p : List Entry → Type 0) (g flag : ℕ) (s b c d t : CallerView) (f 
     part = o.part;
     there = o.there;
     stands = ∥∥₁_map₂ has o.stands (λ h x. stands_all g flag s b shows h b.of b.number b.own o.part (stands_back o.part b b c l x));
+    many = o.many ∙ ap (λ (z : StoreView). z.callers) l.remembers.of;
     none = o.none;
     new = o.new;
   }

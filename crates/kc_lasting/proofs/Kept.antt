@@ -1,5 +1,5 @@
 -- The eras, one more of them.
-use Rattle.std.proofs.Common.{◌≡◌, ℕ, suc, ◌+◌, List, [], ◌∷◌, ◌++◌, Some, length, refl, sym, ap, arith, subst}
+use Rattle.std.proofs.Common.{◌≡◌, ℕ, suc, ◌+◌, List, [], ◌∷◌, ◌++◌, Some, length, refl, sym, ap, ◌∙◌, arith, subst}
 use Rattle.std.proofs.lemmas.List.{length-append}
 use Rattle.atomic_table.specs.Seated.{TableId}
 use Rattle.kc_lasting.proofs.Chains.{all_on, chain_more, ended_here, store_here, store_on}
@@ -17,12 +17,13 @@ module _ (e : Eras) (x : Next) (page : PageView Line) (roll : TableId) (kept : E
   count : length e.page.seen ≡ suc e.number
   count = let k = kept.long in omega (arith, k)
 
-  pub kept_on : ErasKept page.of (record { number = e.number + 1; page = page; keeper = x.keeper; clients = x.clients; taken = 0; ended = e.ended })
+  pub kept_on : ErasKept page.of (record { number = e.number + 1; callers = e.callers; page = page; keeper = x.keeper; clients = x.clients; taken = 0; ended = e.ended })
   kept_on = record {
     page = refl;
     long = (let k = kept.long in let w = ap length written in let l = length-append e.page.seen (line_after x.first x.keeper.caller.of ∷ []) in omega (arith, k, w, l));
-    chain = subst AreEras (sym written) (chain_more e.page.seen e.number x.first x.keeper.caller.of next.left kept.long (subst (λ (z : StoreView). store_at e.page.seen e.number ≡ Some z) (sym next.of) kept.last) next.leaves next.opens kept.chain);
+    chain = subst AreEras (sym written) (chain_more e.page.seen e.number x.first x.keeper.caller.of next.left kept.long (subst (λ (z : StoreView). store_at e.page.seen e.number ≡ Some z) (sym next.of) kept.last) next.leaves next.opens (next.many ∙ ap (λ (z : StoreView). z.callers) (sym next.of)) kept.chain);
     last = subst (λ (k : ℕ). store_at page.seen k ≡ Some x.keeper.caller.of) (omega arith) (subst (λ (ls : List Line). store_at ls (suc e.number) ≡ Some x.keeper.caller.of) (sym written) (store_here e.page.seen (suc e.number) x.first x.keeper.caller.of count));
+    many = next.many ∙ kept.many;
     fresh = next.fresh;
     ends = all_on e.page.seen page.seen (_, written) e.ended.items kept.ends;
   }

@@ -1,8 +1,10 @@
 -- A handle's place, as it goes on.
 use Rattle.std.proofs.Common.{◌≡◌, ◌≤◌, suc, ℕ, List, [], ◌∷◌, ◌++◌, Some, length, refl, sym, ap, ◌∙◌, arith, subst, append-nil, append_assoc}
 use Rattle.std.proofs.Math.Logic.{∥∥₁_map}
+use mathlib.Core.Logic.{∥∥₁_elim}
+use native.Mathlib.Nat.{ℕ_set}
 use Rattle.atomic_table.specs.Seated.{TableId}
-use Rattle.kc_lasting.proofs.Chains.{ended_on, store_on}
+use Rattle.kc_lasting.proofs.Chains.{as_many_callers, ended_on, store_on}
 use Rattle.kc_lasting.proofs.GoingOver.{crosses_back, crosses_before, crosses_behind, stays_first, stays_on}
 use Rattle.kc_lasting.specs.Eras.{AreEras, IsEnded, store_at}
 use Rattle.kc_lasting.specs.Kept.{HasItsPlace, MovesOn}
@@ -61,6 +63,10 @@ placed_over roll z y p q placed page at = record {
   chain = subst (λ (x : PageView Line). ∥ AreEras x.seen ∥₁) (sym page) placed.chain;
 }
 
+-- it went over to another era, whose store has as many callers
+pub as_many_there : (roll : TableId) (z y : StoreView) (p q : Place) → HasItsPlace roll z p → q.page ≡ p.page → store_at q.page.seen q.era ≡ Some y → y.callers ≡ z.callers
+as_many_there roll z y p q placed page at = ∥∥₁_elim placed.chain (ℕ_set y.callers z.callers) (λ eras. as_many_callers p.page.seen p.era q.era z y eras placed.at (subst (λ (x : PageView Line). store_at x.seen q.era ≡ Some y) page at))
+
 pub stays_same : (c s d t e u : CallerView) → StaysAsSeen c s d t → e ≡ d → u ≡ t → StaysAsSeen c s e u
 stays_same c s d t e u a x y = subst (λ (v : CallerView). StaysAsSeen c s e v) (sym y) (subst (λ (v : CallerView). StaysAsSeen c s v t) (sym x) a)
 
@@ -103,11 +109,11 @@ still_on roll c s p d t q e u r i stays placed moves era = record { stays = stay
 pub crosses_from : (roll : TableId) (c s : CallerView) (p : Place) (d t : CallerView) (q : Place) (x : Crossing) (f : Footprint) (e u : CallerView) (r : Place) → StillThere roll c s p d t q → CrossesOnce (IsEnded r.page.seen q.era) (Some x) d t f e u → Crosses (IsEnded r.page.seen p.era) x s c f e u × (u.own ≡ e.own)
 crosses_from roll c s p d t q x f e u r i once = (crosses_back (IsEnded r.page.seen p.era) s t c d e u f i.stays.learns i.stays.seen x (subst (λ (k : ℕ). Crosses (IsEnded r.page.seen k) x t d f e u) i.era once.0), once.1)
 
-pub settled_before : (a b : PageView Line) (j k : ℕ) (c s w v d u : CallerView) (f : Footprint) → b ≡ a → j ≡ k → IsSettled (IsEnded a.seen j) side.Before c s f w v → (d.own ≡ []) × (u ≡ d) → ((g : GoesOver (IsEnded b.seen k) s c d u) × CountsIn g.part s.own c f) × (u.own ≡ d.own)
-settled_before a b j k c s w v d u f page era (part, known, l) n = (crosses_before (IsEnded b.seen k) c s d u f n.0 n.1 part (ended_there a b j k part page era known) l.1 l.2, ap (λ (x : CallerView). x.own) n.1)
+pub settled_before : (a b : PageView Line) (j k : ℕ) (c s w v d u : CallerView) (f : Footprint) → b ≡ a → j ≡ k → IsSettled (IsEnded a.seen j) side.Before c s f w v → d.of.callers ≡ c.of.callers → (d.own ≡ []) × (u ≡ d) → ((g : GoesOver (IsEnded b.seen k) s c d u) × CountsIn g.part s.own c f) × (u.own ≡ d.own)
+settled_before a b j k c s w v d u f page era (part, known, l) many n = (crosses_before (IsEnded b.seen k) c s d u f many n.0 n.1 part (ended_there a b j k part page era known) l.1 l.2, ap (λ (x : CallerView). x.own) n.1)
 
-pub settled_behind : (a b : PageView Line) (j k : ℕ) (c s w v d u : CallerView) (f : Footprint) → b ≡ a → j ≡ k → IsSettled (IsEnded a.seen j) side.Behind c s f w v → (d.own ≡ []) × (u ≡ d) → CutAway (IsEnded b.seen k) s c f d u × (u.own ≡ d.own)
-settled_behind a b j k c s w v d u f page era (part, known, l) n = (crosses_behind (IsEnded b.seen k) c s d u f n.0 n.1 part (ended_there a b j k part page era known) l.1 l.2, ap (λ (x : CallerView). x.own) n.1)
+pub settled_behind : (a b : PageView Line) (j k : ℕ) (c s w v d u : CallerView) (f : Footprint) → b ≡ a → j ≡ k → IsSettled (IsEnded a.seen j) side.Behind c s f w v → d.of.callers ≡ c.of.callers → (d.own ≡ []) × (u ≡ d) → CutAway (IsEnded b.seen k) s c f d u × (u.own ≡ d.own)
+settled_behind a b j k c s w v d u f page era (part, known, l) many n = (crosses_behind (IsEnded b.seen k) c s d u f many n.0 n.1 part (ended_there a b j k part page era known) l.1 l.2, ap (λ (x : CallerView). x.own) n.1)
 
 pub ends_in : (lines : List Line) (h d : HandleView) → h.confirmed.own ≡ h.caller.own → GoesOver (ends_with h d) h.confirmed h.caller d.caller d.confirmed → StandsAtFront d.lines lines → EndsIn lines h
 ends_in lines h d all g sees = record {

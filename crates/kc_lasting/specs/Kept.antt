@@ -15,12 +15,13 @@ abbrev pub MayBeFresh : StoreView → Option Fresh → Type 0
 MayBeFresh z None = Unit {0}
 MayBeFresh z (Some x) = x.client.caller.of ≡ z
 
--- the roll has a line for each era, and they are a chain; the keeper and the clients are of the last one
+-- the roll has a line for each era, and they are a chain; the keeper and the clients are of the last one, whose store has so many callers
 pub record ErasKept (roll : TableId) (e : Eras) : Type 0 where
   pub page : e.page.of ≡ roll
   pub long : length e.page.seen ≡ e.number + 1
   pub chain : AreEras e.page.seen
   pub last : store_at e.page.seen e.number ≡ Some e.keeper.caller.of
+  pub many : e.keeper.caller.of.callers ≡ e.callers
   pub fresh : All (MayBeFresh e.keeper.caller.of) e.clients.items
   pub ends : All (MayEnd e.page.seen) e.ended.items
 
@@ -34,11 +35,12 @@ pub record MovesOn (p q : Place) : Type 0 where
   pub lines : StandsAtFront p.page.seen q.page.seen
   pub era : p.era ≤ q.era
 
--- the store was cut off, and one was opened with what stood there
+-- the store was cut off, and one with as many callers was opened with what stood there
 pub record IsNextEra (z : StoreView) (x : Next) : Type 0 where
   pub of : x.first.of ≡ z
   pub left : List ℕ
   pub leaves : LeavesValues x.first left
   pub opens : OpensOn left x.keeper.caller.of
+  pub many : x.keeper.caller.of.callers ≡ z.callers
   pub end : IsEraEnd z x.last x.first.known x.versions.items
   pub fresh : All (MayBeFresh x.keeper.caller.of) x.clients.items

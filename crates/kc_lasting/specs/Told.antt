@@ -35,11 +35,12 @@ use Rattle.kc_xt.specs.declared.attempts.Tried.{Tried}
 
 -- ---- behind a call, by which a caller that had been confirmed at s came to b; the handle has d now, and was confirmed at t
 
--- The era was cut off: this is the history with which it ended, and this is known of it. The handle goes on in another store, and has no entries there
+-- The era was cut off: this is the history with which it ended, and this is known of it. The handle goes on in another store, which has as many callers, and has no entries there
 pub record GoesOver (p : List Entry → Type 0) (s b d t : CallerView) : Type 0 where
   pub part : List Entry
   pub there : p part
   pub stands : ∥ StandsBefore b.of b.number b.own s part ∥₁
+  pub many : d.of.callers ≡ b.of.callers
   pub none : d.own ≡ []
   pub new : t ≡ d
 

@@ -193,10 +193,7 @@ fn renew_if_last<R: Wait>(rt: &R, shared: &Shared, eras: &mut Eras, place: &mut 
     if !begins || eras.number != place.era {
         return;
     }
-    if eras
-        .renew(rt, &shared.roll, shared.alloc, shared.callers)
-        .is_err()
-    {
+    if eras.renew(rt, &shared.roll, shared.alloc).is_err() {
         place.left = AGAIN_AFTER;
     }
 }

@@ -9,6 +9,8 @@ use kc_roll::{Page, Roll};
 #[derive(Drop)]
 pub struct Eras {
     pub(crate) number: u64,
+    // How many callers the store of each has.
+    pub(crate) callers: u32,
     pub(crate) page: Page<Line>,
     pub(crate) keeper: Client,
     pub(crate) clients: Vec<Option<Fresh>>,

@@ -153,7 +153,7 @@ fn handles(
 {
     let mut eras = eras;
     let mut base = roll.again(&mut eras.page);
-    let shared = Arc::new(alloc, Shared::of(alloc, eras, roll, callers + 1)?)?;
+    let shared = Arc::new(alloc, Shared::of(alloc, eras, roll)?)?;
     let mut given = Vec::with_capacity(alloc, clients.len())?;
     let mut number: u32 = 0;
     for fresh in clients {

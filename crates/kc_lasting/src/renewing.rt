@@ -160,13 +160,13 @@ impl Eras {
     }
 
     // What a renewal makes of the last era.
-    fn next<R: Wait>(&mut self, rt: &R, alloc: Global, callers: u32) -> Result<Next, OpenError>
+    fn next<R: Wait>(&mut self, rt: &R, alloc: Global) -> Result<Next, OpenError>
         requires kept { ErasKept self.old.page.of self.old }
         ensures kept { ErasKept self.old.page.of self.new }
         ensures next { IfOk result (λ x. IsNextEra self.new.keeper.caller.of x) }
         ensures page { self.new.page ≡ self.old.page }
     {
-        self.keeper.next(rt, alloc, callers)
+        self.keeper.next(rt, alloc, self.callers)
     }
 
     // Room for how one more era ends.
@@ -189,12 +189,11 @@ impl Eras {
         rt: &R,
         roll: &Roll<Line>,
         alloc: Global,
-        callers: u32,
     ) -> Result<(), OpenError>
         requires kept { ErasKept roll.now self.old }
         ensures kept { ErasKept roll.now self.new }
     {
-        let next = self.next(rt, alloc, callers)?;
+        let next = self.next(rt, alloc)?;
         self.make_room()?;
         if self.go_on(roll, next) {
             Ok(())
@@ -255,6 +254,7 @@ fn write_first<N: Writes<Line>>(roll: &Roll<Line>, page: &mut Page<Line>, _keepe
 impl Client {
     // Cuts its era off, and opens a store on what stood at the cut.
     fn next<R: Wait>(&mut self, rt: &R, alloc: Global, callers: u32) -> Result<Next, OpenError>
+        requires callers { self.old.caller.of.callers ≡ callers }
         ensures of { self.new.caller.of ≡ self.old.caller.of }
         ensures next { IfOk result (λ x. IsNextEra self.old.caller.of x) }
     {
@@ -326,6 +326,7 @@ fn opened(
 ) -> Result<(Client, Vec<Option<Fresh>>), OpenError>
     requires flag { 0 < length values.now }
     ensures opens { IfOk result (λ r. OpensOn values.now r.0.caller.of) }
+    ensures callers { IfOk result (λ r. r.0.caller.of.callers ≡ callers) }
     ensures fresh { IfOk result (λ r. All (MayBeFresh r.0.caller.of) r.1.items) }
 {
     let (store, dealt) = Store::open(alloc, values, callers)?;
@@ -386,6 +387,7 @@ pub(crate) fn first_of(
     taken: u32,
 ) -> Result<(Roll<Line>, Eras, Vec<Fresh>), AllocError>
     requires of { All (λ c. c.of ≡ store) callers.items }
+    requires many { (store.callers ≡ taken + 1) × (taken ≤ 63) }
     requires new { All IsNewCaller callers.items }
     requires size { store.locations ≡ locations + 1 }
     requires few { locations < MOST_LOCATIONS }
@@ -406,6 +408,7 @@ pub(crate) fn first_of(
     }
     let eras = Eras {
         number: 0,
+        callers: taken + 1,
         page,
         keeper,
         clients: Vec::new(alloc),

@@ -15,7 +15,6 @@ pub struct Shared {
     pub(crate) alloc: Global,
     pub(crate) eras: Holder<Eras>,
     pub(crate) roll: Roll<Line>,
-    pub(crate) callers: u32,
     ghost tag: { eras.tag ≡ roll },
 }
 
@@ -34,21 +33,11 @@ pub struct Place {
 }
 
 impl Shared {
-    pub(crate) fn of(
-        alloc: Global,
-        eras: Eras,
-        roll: Roll<Line>,
-        callers: u32,
-    ) -> Result<Shared, AllocError>
+    pub(crate) fn of(alloc: Global, eras: Eras, roll: Roll<Line>) -> Result<Shared, AllocError>
         requires { ErasKept roll eras }
         ensures { IfOk result (λ s. s.roll ≡ roll) }
     {
         let eras = Holder::new(alloc, eras, &roll)?;
-        Ok(Shared {
-            alloc,
-            eras,
-            roll,
-            callers,
-        })
+        Ok(Shared { alloc, eras, roll })
     }
 }

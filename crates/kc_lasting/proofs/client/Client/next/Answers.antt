@@ -1,4 +1,4 @@
-use Rattle.std.proofs.Common.{rules, ◌≡◌, ◌∙◌, List, ap, arith, length, map}
+use Rattle.std.proofs.Common.{rules, ◌≡◌, ◌∙◌, List, ap, arith, length, map, sym}
 use Rattle.kc_model.proofs.Lists.{written_over}
 use Rattle.kc_model.specs.declared.footprint.Seen.{Seen}
 use Rattle.kc_lasting.proofs.client.Client.next.Goals as goal
@@ -16,6 +16,7 @@ returns-clause-next g c =
       left = c.in_ok-values.values.items;
       leaves = record { cells = c.cut_off-first.new.cells; cut = c.cut_off-first.ensures.cut; values_are = values };
       opens = search rules;
+      many = c.in_ok-keeper.ensures.callers ∙ sym c.requires.callers;
       end = c.cut_off-first.ensures.end c.in_ok-versions.versions.items is;
       fresh = search rules;
     }
