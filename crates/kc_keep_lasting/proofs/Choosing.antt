@@ -6,9 +6,10 @@ use Rattle.std.proofs.lemmas.Bool.Decides.{nat_tests}
 use Rattle.kc_keep.proofs.Together.{of_callers}
 use Rattle.kc_keep.specs.Only.{IsOfThese, OfMeanings}
 use Rattle.kc_keep_lasting.specs.Eras.{ErasOf, KeepFirst, SparesFirst}
-use Rattle.kc_keep_lasting.specs.Served.{AllServed, EndsOf}
+use Rattle.kc_keep_lasting.specs.Served.{AllServed, EndsOf, KeeperSpares}
+use Rattle.kc_lasting.proofs.Chains.{as_many_callers, store_on}
 use Rattle.kc_lasting.specs.Cuts.{IsCut}
-use Rattle.kc_lasting.specs.Eras.{AreEras, Follow, IsEnded, ended_at, store_at}
+use Rattle.kc_lasting.specs.Eras.{AreEras, Follow, IsEnded, ended_at, store_at, first_line}
 use Rattle.kc_lasting.specs.declared.line.Line.{Line}
 use Rattle.kc_model.specs.declared.footprint.Entry.{Entry}
 use Rattle.kc_model.specs.declared.footprint.Seen.{Seen}
@@ -82,27 +83,27 @@ below_callers (l ∷ ls) callers e history f many ended =
 
 -- ---- all eras
 
-module _ (is_one : Meaning → Type 0) (n count : ℕ) (lines : List Line) (all : AllServed is_one n count lines) where
+module _ (is_one : Meaning → Type 0) (n count : ℕ) (z : StoreView) (lines : List Line) (keeper : ℕ) (spares : KeeperSpares n lines keeper) (each : AllServed is_one count z lines keeper) where
   -- what this caller has of the history with which an era ended
   abbrev OfCaller : ℕ → ℕ → Type 0
   OfCaller e k = (history : List Entry) → IsEnded lines e history → KeepFirst is_one n (entries_of k history)
 
-  of_one : (e k : ℕ) → e < count → k < all.callers → ∥ OfCaller e k ∥₁
-  of_one e k lt below = go (all.each k below)
+  of_one : (e k : ℕ) → e < count → k < z.callers → ∥ OfCaller e k ∥₁
+  of_one e k lt below = go (each k below)
     where
-      go : (k ≡ all.keeper) ⊎ ((e : ℕ) → e < count → EndsOf is_one lines k e) → ∥ OfCaller e k ∥₁
-      go (inl is) = ∣ (λ history ended i d lt. inr (subst (λ (j : ℕ). All (λ (x : Entry). SparesFirst n x.footprint) (entries_of j history)) (sym is) (all.spares e history ended) i d lt)) ∣₁
+      go : (k ≡ keeper) ⊎ ((e : ℕ) → e < count → EndsOf is_one lines k e) → ∥ OfCaller e k ∥₁
+      go (inl is) = ∣ (λ history ended i d lt. inr (subst (λ (j : ℕ). All (λ (x : Entry). SparesFirst n x.footprint) (entries_of j history)) (sym is) (spares e history ended) i d lt)) ∣₁
       go (inr ends) = let x = ends e lt in ∥∥₁_map x.only (of_these x)
         where
           of_these : (x : EndsOf is_one lines k e) → OfMeanings is_one (entries_of k x.history) → OfCaller e k
           of_these x only history ended i d lt = inl (subst (λ (es : List Entry). OfMeanings is_one (entries_of k es)) (same_history lines e x.history history x.ended ended) only i d lt)
 
-  of_each : ∥ ((e : ℕ) → e < count → (k : ℕ) → k < all.callers → OfCaller e k) ∥₁
-  of_each = choose (λ e. (k : ℕ) → k < all.callers → OfCaller e k) count (λ e lt. choose (OfCaller e) all.callers (λ k below. of_one e k lt below))
+  of_each : ∥ ((e : ℕ) → e < count → (k : ℕ) → k < z.callers → OfCaller e k) ∥₁
+  of_each = choose (λ e. (k : ℕ) → k < z.callers → OfCaller e k) count (λ e lt. choose (OfCaller e) z.callers (λ k below. of_one e k lt below))
 
-  pub all_eras : AreEras lines → ∥ ErasOf is_one n (take (suc count) lines) ∥₁
-  all_eras eras = ∥∥₁_map of_each (λ each e history ended.
+  pub all_eras : StandsAtFront (first_line z ∷ []) lines → AreEras lines → ∥ ErasOf is_one n (take (suc count) lines) ∥₁
+  all_eras front eras = ∥∥₁_map of_each (λ known e history ended.
       let there = taken (suc count) lines (suc e) ended.note ended.ended in
       let lt = there.0 in
       let whole : IsEnded lines e history = record { note = ended.note; ended = there.1; known = ended.known } in
-      of_callers (λ (x : Entry). IsOfThese is_one x.footprint ⊎ SparesFirst n x.footprint) all.callers history (below_callers lines all.callers e history eras all.many whole) (λ k below. each e (omega (arith, lt)) k below history whole))
+      of_callers (λ (x : Entry). IsOfThese is_one x.footprint ⊎ SparesFirst n x.footprint) z.callers history (below_callers lines z.callers e history eras (λ k y at. as_many_callers lines 0 k z y eras (store_on (first_line z ∷ []) lines front 0 z refl) at) whole) (λ k below. known e (omega (arith, lt)) k below history whole))

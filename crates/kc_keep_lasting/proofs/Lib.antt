@@ -5,3 +5,4 @@ pub mod Owning
 pub mod Crossed
 pub mod Passed
 pub mod Choosing
+pub mod Gathered

@@ -12,4 +12,4 @@ mod serving;
 
 pub use callers::{eras_are_of_their_callers, own_entries_are_of_these};
 pub use laws::{holds_over_eras, steps_over_eras};
-pub use serving::{all_handles_serve, calls_serve, handles_serve};
+pub use serving::{all_handles_serve, calls_serve, handles_serve, holds_over_served_eras};
