@@ -6,3 +6,4 @@ pub mod Crossed
 pub mod Passed
 pub mod Choosing
 pub mod Gathered
+pub mod Ended

@@ -2,7 +2,7 @@
 use Rattle.std.proofs.Common.{ℕ}
 use Rattle.kc_keep.specs.Only.{CommitsOnly}
 use Rattle.kc_keep_lasting.proofs.Crossed.{in_vain_served, nothing_done, told_served, looked}
-use Rattle.kc_keep_lasting.specs.Served.{CommitGoesOn, GoesOnAs, HasServed, PassGoesOn, ReadGoesOn, VainGoesOn, ViewGoesOn, ViewedGoesOn, WaitGoesOn, WaitedGoesOn}
+use Rattle.kc_keep_lasting.specs.Served.{CommitGoesOn, HasServed, PassGoesOn, ReadGoesOn, VainGoesOn, ViewGoesOn, ViewedGoesOn, WaitGoesOn, WaitedGoesOn}
 use Rattle.kc_lasting.specs.Told.{AllInVain, AllToldLater, CommitsInSomeEra, HandleView, PassesOn, ReadsSo, ViewsSo, ViewsThere, WaitsTill, again, first, missed, none, passed, still, waited}
 use Rattle.kc_model.specs.declared.footprint.Footprint.{Footprint}
 use Rattle.kc_model.specs.declared.footprint.Seen.{Seen}

@@ -1,11 +1,14 @@
 //! What a handle has served, from call to call. The laws do nothing: the contract is the law.
 
-ghost use Rattle.std.specs.Prelude.{◌≡◌, ◌<◌, ◌≤◌, ◌+◌, ℕ, suc, [], ◌∷◌, All, Bool, List, Some, take};
+ghost use Rattle.std.specs.Prelude.{◌≡◌, ◌≢◌, ◌<◌, ◌≤◌, ◌+◌, ℕ, suc, [], ◌∷◌, All, Bool, List, Some, length, take};
+ghost use Rattle.atomic_table.specs.Seated.{TableId};
 ghost use Rattle.kc_keep.specs.Keeping.{HoldsThroughout};
 ghost use Rattle.kc_keep_lasting.specs.Eras.{ErasOf, IsOfFirst};
 ghost use Rattle.kc_keep_lasting.specs.Served.{AllServed, AreAllHandles, CameBack, CommitGoesOn, EndsOf, GoesOnAs, HasServed, KeeperSpares, PassGoesOn, ReadGoesOn, ViewedGoesOn, WaitedGoesOn};
 ghost use Rattle.kc_lasting.specs.Eras.{AreEras, first_line, store_at};
-ghost use Rattle.kc_lasting.specs.Told.{CommitsInSomeEra, DoesNothing, EndsIn, HandleView, LooksInItsEra, PassesOn, ReadsSo, Renews, ToldInVain, ToldSo, ViewsSo, WaitsTill};
+ghost use Rattle.kc_lasting.specs.Opening.{IsFirst};
+ghost use Rattle.kc_lasting.specs.Told.{CommitsInSomeEra, DoesNothing, EndsIn, HandleView, LooksInItsEra, Moves, PassesOn, ReadsSo, Renews, ToldInVain, ToldSo, ViewsSo, WaitsTill, standing_of};
+ghost use Rattle.kc_lasting.specs.declared.handle.LastingCaller.{LastingCaller as LastingHandle};
 ghost use Rattle.kc_lasting.specs.declared.line.Line.{Line};
 ghost use Rattle.kc_lasting_laws.specs.Flat.{flat_history};
 ghost use Rattle.kc_model.specs.declared.footprint.Footprint.{Footprint};
@@ -25,6 +28,7 @@ use kc_keep::{Invariant, told_of};
 /// each era until then has of it entries of these meanings alone.
 pub fn handles_serve<I: Invariant>(invariant: &I)
     ensures first { (c : HandleView) → c.era ≡ 0 → c.caller.own ≡ [] → HasServed (I.is_one invariant.now) c }
+    ensures opened { (roll : TableId) (z : StoreView) (h : LastingHandle) → IsFirst roll z h → HasServed (I.is_one invariant.now) (standing_of h) }
     ensures told { (n : ℕ) (m : Meaning) (a : Verdict) (c : HandleView) (f : Footprint) (d : HandleView) → I.is_one invariant.now m → HasServed (I.is_one invariant.now) c → GoesOnAs c d → ToldSo (limited n m) a c f d → HasServed (I.is_one invariant.now) d }
     ensures in_vain { (n : ℕ) (m : Meaning) (c : HandleView) (f : Footprint) (d : HandleView) → I.is_one invariant.now m → HasServed (I.is_one invariant.now) c → GoesOnAs c d → ToldInVain (limited n m) c f d → HasServed (I.is_one invariant.now) d }
     ensures nothing { (c d : HandleView) → HasServed (I.is_one invariant.now) c → GoesOnAs c d → DoesNothing c d → HasServed (I.is_one invariant.now) d }
@@ -34,6 +38,12 @@ pub fn handles_serve<I: Invariant>(invariant: &I)
 {
     told_of(invariant);
 }
+
+/// A handle goes on as the same one where it has the same number, and is in the same era, or in the next one with another store.
+pub fn handles_go_on()
+    ensures still { (c d : HandleView) → Moves c d → d.caller.number ≡ c.caller.number → d.era ≡ c.era → GoesOnAs c d }
+    ensures next { (c d : HandleView) → Moves c d → d.caller.number ≡ c.caller.number → d.era ≡ c.era + 1 → d.caller.of ≢ c.caller.of → GoesOnAs c d }
+{}
 
 /// Likewise behind calls of several steps, where the handle goes on from each to the next: a commit, also one that waits, a view, a
 /// read, and where nothing was done.
@@ -54,10 +64,11 @@ pub fn all_handles_serve<I: Invariant>(invariant: &I)
     ensures eras { (n count keeper : ℕ) (z : StoreView) (lines : List Line) → StandsAtFront (first_line z ∷ []) lines → AreEras lines → KeeperSpares n lines keeper → AllServed (I.is_one invariant.now) count z lines keeper → ∥ ErasOf (I.is_one invariant.now) n (take (suc count) lines) ∥₁ }
 {}
 
-/// Then what the first opening has, and each meaning keeps, holds behind every front of the one history of these eras, and of what
-/// the store of the era behind them opened with.
+/// Then what the first opening has, and each meaning keeps, holds behind every front of the one history of these eras, which is the
+/// whole where no more have ended, and of what the store of the era behind them opened with.
 pub fn holds_over_served_eras<I: Invariant>(invariant: &I)
     ensures throughout { (n count keeper : ℕ) (z : StoreView) (lines : List Line) (hs : List HandleView) → StandsAtFront (first_line z ∷ []) lines → AreEras lines → KeeperSpares n lines keeper → AreAllHandles z keeper hs → All (CameBack (I.is_one invariant.now) count lines) hs → IsOfFirst n (I.holds invariant.now) → I.holds invariant.now (values (store_opening z)) → ∥ HoldsThroughout (I.holds invariant.now) (store_opening z) (flat_history (take (suc count) lines)) ∥₁ }
+    ensures whole { (n count keeper : ℕ) (z : StoreView) (lines : List Line) (hs : List HandleView) → length lines ≤ count + 1 → StandsAtFront (first_line z ∷ []) lines → AreEras lines → KeeperSpares n lines keeper → AreAllHandles z keeper hs → All (CameBack (I.is_one invariant.now) count lines) hs → IsOfFirst n (I.holds invariant.now) → I.holds invariant.now (values (store_opening z)) → ∥ HoldsThroughout (I.holds invariant.now) (store_opening z) (flat_history lines) ∥₁ }
     ensures opens { (n count keeper : ℕ) (z y : StoreView) (lines : List Line) (hs : List HandleView) → StandsAtFront (first_line z ∷ []) lines → AreEras lines → store_at lines count ≡ Some y → n ≤ y.locations → KeeperSpares n lines keeper → AreAllHandles z keeper hs → All (CameBack (I.is_one invariant.now) count lines) hs → IsOfFirst n (I.holds invariant.now) → I.holds invariant.now (values (store_opening z)) → ∥ I.holds invariant.now (values (store_opening y)) ∥₁ }
 {
     all_handles_serve(invariant);

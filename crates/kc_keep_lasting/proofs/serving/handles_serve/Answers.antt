@@ -1,4 +1,5 @@
 use Rattle.kc_keep_lasting.proofs.Crossed.{began, in_vain_served, looked, nothing_done, renewed, taken_in, told_served}
+use Rattle.kc_lasting.specs.Told.{standing_of}
 use Rattle.kc_keep_lasting.proofs.serving.handles_serve.Goals as goal
 
 pub returns-clause-first : goal.returns-clause-first
@@ -21,3 +22,6 @@ returns-clause-looks g x = looked (g.I.Invariant.is_one x.args.invariant.now)
 
 pub returns-clause-ends : goal.returns-clause-ends
 returns-clause-ends g x = taken_in (g.I.Invariant.is_one x.args.invariant.now)
+
+pub returns-clause-opened : goal.returns-clause-opened
+returns-clause-opened g x = λ roll z h first. began (g.I.Invariant.is_one x.args.invariant.now) (standing_of h) first.era first.own
