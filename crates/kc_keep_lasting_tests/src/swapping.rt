@@ -1,0 +1,87 @@
+//! Two handles that swap, by public calls.
+
+ghost use Rattle.std.specs.Prelude.{◌≡◌, ◌≤◌};
+ghost use Rattle.kc_lasting.specs.Told.{standing_of};
+
+use crate::two::Two;
+use kc_keep_lasting::finish_kept;
+use kc_lasting::{LastingCaller, open_at};
+use kc_loc::LocOp;
+use kc_model::{Footprint, Loc, Reply};
+use kc_store::Answered;
+use std::alloc::Global;
+use std::process::Abort;
+use std::sync::Wait;
+
+fn equal(rt: &impl Abort, came: u64, wanted: u64) {
+    assert_eq!(rt; came, wanted);
+}
+
+// Two handles of one store of 1000 and 7, which has an era in each four commits.
+fn opened(rt: &(impl Abort + AllocGlobal)) -> (LastingCaller, LastingCaller)
+    ensures { (standing_of result.0).roll ≡ (standing_of result.1).roll }
+{
+    let Ok(mut callers) = open_at(rt.alloc(), &[1000, 7], &[0, 0], 2, 0, 3, 3) else {
+        return None.expect(rt, "not opened");
+    };
+    let (Some(second), Some(first)) = (callers.pop(), callers.pop()) else {
+        return None.expect(rt, "not two");
+    };
+    (first, second)
+}
+
+// Whether they were swapped.
+fn swap<R: Wait>(rt: &R, caller: &mut LastingCaller) -> bool
+    ensures { (standing_of caller.new).roll ≡ (standing_of caller.old).roll }
+{
+    if caller.locations() < 2 {
+        return false;
+    }
+    let op = LocOp::Swap(Loc(0), Loc(1));
+    caller.commit_into(rt, &op, &mut Footprint::new()) == Answered::Done(Reply::Unit)
+}
+
+// What both have together, and 0 where there are no two.
+fn together<R: Wait>(rt: &R, caller: &mut LastingCaller) -> u64 {
+    if caller.locations() < 2 {
+        return 0;
+    }
+    caller.read(rt, Loc(0)).value as u64 + caller.read(rt, Loc(1)).value as u64
+}
+
+// Each swaps so often, in turn, and how often it was done.
+fn swap_all<R: Wait>(
+    rt: &R,
+    first: &mut LastingCaller,
+    second: &mut LastingCaller,
+    rounds: u64,
+) -> u64
+    requires { rounds ≤ 1000 }
+    requires roll { (standing_of first.old).roll ≡ (standing_of second.old).roll }
+    ensures roll { (standing_of first.new).roll ≡ (standing_of second.new).roll }
+{
+    let mut done: u64 = 0;
+    for _ in 0..rounds {
+        if swap(rt, first) {
+            done = done.saturating_add(1);
+        }
+        if swap(rt, second) {
+            done = done.saturating_add(1);
+        }
+    }
+    done
+}
+
+#[test]
+fn what_two_have_together_stays_over_eras(rt: HostRuntime) {
+    let (mut first, mut second) = opened(&rt);
+    let done = swap_all(&rt, &mut first, &mut second, 51);
+    equal(&rt, done, 102);
+    let mut others = [second];
+    let two = Two { together: 1007 };
+    let late = first.era();
+    let ended = finish_kept(&rt, &two, &mut first, &mut others);
+    equal(&rt, together(&rt, &mut first), 1007);
+    equal(&rt, (late > 20) as u64, 1);
+    equal(&rt, ended as u64, 1);
+}
