@@ -1,5 +1,5 @@
 -- A swap keeps what two values have together.
-use Rattle.std.proofs.Common.{◌≡◌, ◌≢◌, ◌+◌, ◌<◌, ℕ, List, sym, ap, subst, ◌∙◌, arith}
+use Rattle.std.proofs.Common.{◌≡◌, ◌≢◌, ℕ, List, sym, subst, arith}
 use Rattle.kc_keep.specs.Keeping.{IsKeptBy}
 use Rattle.kc_keep_lasting.specs.Eras.{IsOfFirst}
 use Rattle.kc_keep_lasting_tests.specs.Two.{HasTogether, IsSwap, swap_meaning}

@@ -56,7 +56,7 @@ fn swap_all<R: Wait>(
     second: &mut LastingCaller,
     rounds: u64,
 ) -> u64
-    requires { rounds ≤ 1000 }
+    requires few { rounds ≤ 1000 }
     requires roll { (standing_of first.old).roll ≡ (standing_of second.old).roll }
     ensures roll { (standing_of first.new).roll ≡ (standing_of second.new).roll }
 {
@@ -72,16 +72,30 @@ fn swap_all<R: Wait>(
     done
 }
 
+// The one that is behind goes over to the other's era.
+fn gather<R: Wait>(rt: &R, first: &mut LastingCaller, second: &mut LastingCaller)
+    requires roll { (standing_of first.old).roll ≡ (standing_of second.old).roll }
+    ensures roll { (standing_of first.new).roll ≡ (standing_of second.new).roll }
+{
+    if first.era() < second.era() {
+        first.renew(rt);
+    } else if second.era() < first.era() {
+        second.renew(rt);
+    }
+}
+
 #[test]
 fn what_two_have_together_stays_over_eras(rt: HostRuntime) {
     let (mut first, mut second) = opened(&rt);
     let done = swap_all(&rt, &mut first, &mut second, 51);
     equal(&rt, done, 102);
+    gather(&rt, &mut first, &mut second);
     let mut others = [second];
     let two = Two { together: 1007 };
     let late = first.era();
     let ended = finish_kept(&rt, &two, &mut first, &mut others);
-    equal(&rt, together(&rt, &mut first), 1007);
-    equal(&rt, (late > 20) as u64, 1);
     equal(&rt, ended as u64, 1);
+    equal(&rt, (late > 5) as u64, 1);
+    equal(&rt, first.era(), late.saturating_add(1));
+    equal(&rt, together(&rt, &mut first), 1007);
 }
