@@ -3,7 +3,7 @@
 
 mod two;
 
-pub use two::{Two, together_over_eras};
+pub use two::{Two, swap, together_over_eras};
 
 #[cfg(test)]
 mod swapping;

@@ -3,11 +3,10 @@
 ghost use Rattle.std.specs.Prelude.{◌≡◌, ◌≤◌};
 ghost use Rattle.kc_lasting.specs.Told.{standing_of};
 
-use crate::two::Two;
+use crate::two::{Two, swap};
 use kc_keep_lasting::finish_kept;
 use kc_lasting::{LastingCaller, open_at};
-use kc_loc::LocOp;
-use kc_model::{Footprint, Loc, Reply};
+use kc_model::{Loc, Reply};
 use kc_store::Answered;
 use std::alloc::Global;
 use std::process::Abort;
@@ -31,14 +30,13 @@ fn opened(rt: &(impl Abort + AllocGlobal)) -> (LastingCaller, LastingCaller)
 }
 
 // Whether they were swapped.
-fn swap<R: Wait>(rt: &R, caller: &mut LastingCaller) -> bool
+fn was_swapped<R: Wait>(rt: &R, caller: &mut LastingCaller) -> bool
     ensures { (standing_of caller.new).roll ≡ (standing_of caller.old).roll }
 {
     if caller.locations() < 2 {
         return false;
     }
-    let op = LocOp::Swap(Loc(0), Loc(1));
-    caller.commit_into(rt, &op, &mut Footprint::new()) == Answered::Done(Reply::Unit)
+    swap(rt, &Two { together: 1007 }, caller) == Answered::Done(Reply::Unit)
 }
 
 // What both have together, and 0 where there are no two.
@@ -62,10 +60,10 @@ fn swap_all<R: Wait>(
 {
     let mut done: u64 = 0;
     for _ in 0..rounds {
-        if swap(rt, first) {
+        if was_swapped(rt, first) {
             done = done.saturating_add(1);
         }
-        if swap(rt, second) {
+        if was_swapped(rt, second) {
             done = done.saturating_add(1);
         }
     }
