@@ -1,25 +1,24 @@
 -- What the calls inside say, in the words of those who use the store.
-use Rattle.std.proofs.Common.{◌≡◌, ◌<◌, ◌≤◌, ℕ, true, List, [], ◌∷◌, map, refl, sym, ap, ◌∙◌, subst}
+use Rattle.std.proofs.Common.{◌≡◌, ◌<◌, ◌≤◌, ℕ, true, List, [], ◌∷◌, refl, sym, ap, ◌∙◌, subst}
 use Rattle.std.specs.Prelude.{IfOk, Ok, Err, Result, take}
 use Rattle.kc_face.proofs.Cells.{cells_first, made_there}
 use Rattle.kc_face.proofs.Rising.{numbers_rise}
+use Rattle.kc_face.proofs.Told.{given_up}
 use Rattle.kc_face.specs.Answers.{has_entry, stays_worn}
 use Rattle.kc_face.specs.Inside.{answered_as, tried_as}
-use Rattle.kc_face.specs.Knows.{IsAnswered, IsOvertaken, IsTried, NotesWear, OnlyLearns, ReadsSo, Remembers, Stood, TryNotesWear, entry_numbers}
+use Rattle.kc_face.specs.Knows.{NotesWear, ReadsSo, TryNotesWear, entry_numbers}
 use Rattle.kc_face.specs.Shows.{entry_numbers_placed as placed_numbers, seen_caller, seen_store, table_of}
-use Rattle.kc_face.specs.Views.{CallerSeen, StoreSeen}
 use Rattle.kc_model.specs.Footprint.{IsBelow}
 use Rattle.kc_model.specs.Rising.{IsRising}
 use Rattle.kc_model.specs.Store.{store_of}
-use Rattle.kc_model.specs.declared.footprint.Entry.{Entry}
 use Rattle.kc_model.specs.declared.footprint.Footprint.{Footprint}
 use Rattle.kc_model.specs.declared.footprint.Seen.{Seen}
 use Rattle.kc_model.specs.declared.plain_store.Cell.{Cell}
 use Rattle.kc_store.proofs.Meant.{tries_meant}
 use Rattle.kc_store.specs.Answers.{own_entries}
-use Rattle.kc_store.specs.Commits.{AllTries}
-use Rattle.kc_store.specs.Knows.{NotesWear as NotesInside, IsTold as IsToldInside, IsOvertaken as IsOvertakenInside, OnlyLearns as OnlyLearnsInside, Remembers as RemembersInside}
-use Rattle.kc_store.specs.Reads.{IsReadOrBusy, Stood as StoodInside}
+use Rattle.kc_store.specs.Backs.{ShowsItsSeat}
+use Rattle.kc_store.specs.Knows.{NotesWear as NotesInside}
+use Rattle.kc_store.specs.Reads.{IsReadOrBusy}
 use Rattle.kc_store.specs.Tries.{Tries}
 use Rattle.kc_store.specs.Views.{CallerView, StoreView, caller_view, store_opening, store_view}
 use Rattle.kc_store.specs.declared.reading.ReadBusy.{ReadBusy}
@@ -45,37 +44,11 @@ table_is z e = ap (λ (x : StoreView). table_of (seen_store x)) e
 pub same_store : (a b : StoreView) → ShowsItself a → ShowsItself b → seen_store a ≡ seen_store b → a ≡ b
 same_store a b p q e = p ∙ ap store_view (sym (table_is a p) ∙ ap table_of e ∙ table_is b q) ∙ sym q
 
-pub shows_still : (a b : StoreView) → b ≡ a → ShowsItself a → ShowsItself b
-shows_still a b e p = subst ShowsItself (sym e) p
+-- and so is the store of a caller that is what its seat shows
+pub of_shows : (c : CallerView) → ShowsItsSeat c → ShowsItself c.of
+of_shows c e = ap (λ (x : CallerView). x.of) e ∙ ap store_view (sym (ap (λ (x : CallerView). x.of.table) e))
 
--- ---- what a caller knows
-
-pub remembers : (c d : CallerView) → RemembersInside c d → Remembers (seen_caller c) (seen_caller d)
-remembers c d r = record { of = ap seen_store r.of; number = r.number; known = r.known; worn = r.worn }
-
-pub learns : (c d : CallerView) → OnlyLearnsInside c d → OnlyLearns (seen_caller c) (seen_caller d)
-learns c d l = record { remembers = remembers c d l.remembers; own = l.own; worn = l.worn }
-
--- ---- what a call adds
-
-overtaken : (c : CallerView) (f : Footprint) (l version : ℕ) (d : CallerView) → IsOvertakenInside c f l version d → IsOvertaken (seen_caller c) f l version (seen_caller d)
-overtaken c f l version d o = record { read = o.read; reads = o.reads; at = o.at; next = o.next; entry = o.entry; known = o.known; other = o.other; put = o.put; puts = o.puts; there = o.there; ends = o.ends }
-
-pub tried : (m : Meaning) (a : Verdict) (c : CallerView) (f : Footprint) (d : CallerView) → IsToldInside m a c f d → IsTried m (tried_as a) (seen_caller c) f (seen_caller d)
-tried m (verdict.Done r) c f d t = t
-tried m verdict.Later c f d t = t
-tried m verdict.TooLarge c f d t = t
-tried m (verdict.WornLocation loc) c f d t = t
-tried m verdict.WornPool c f d t = t
-tried m (verdict.Lost loc version) c f d t = (overtaken c f loc.0 version d t.0, t.1)
-tried m (verdict.Busy steps) c f d t = t.1
-
-pub answered_so : (m : Meaning) (a : AnsweredInside) (c : CallerView) (f : Footprint) (d : CallerView) → IsToldInside m (verdict_of a) c f d → IsAnswered m (answered_as a) (seen_caller c) f (seen_caller d)
-answered_so m (inside.Done r) c f d t = t
-answered_so m inside.Later c f d t = t
-answered_so m inside.TooLarge c f d t = t
-answered_so m (inside.WornLocation loc) c f d t = t
-answered_so m inside.WornPool c f d t = t
+-- ---- what a call notes
 
 pub try_notes : (a : Verdict) (c d : CallerView) → NotesInside c a d → TryNotesWear (seen_caller c) (tried_as a) (seen_caller d)
 try_notes (verdict.Done r) c d n = n
@@ -120,8 +93,8 @@ stays_so (verdict.Busy steps) e = e
 
 -- ---- reads
 
-pub reads_so : (l : ℕ) (r : Result Seen ReadBusy) (c d : CallerView) → l < c.of.locations → d.of ≡ c.of → IsReadOrBusy l r c d → ReadsSo l r (seen_caller c) (seen_caller d)
-reads_so l (Ok r) c d lt of s =
+pub reads_so : (l : ℕ) (r : Result Seen ReadBusy) (c d : CallerView) → l < c.of.locations → d.of ≡ c.of → ShowsItsSeat c → IsReadOrBusy l r c d → ReadsSo l r (seen_caller c) (seen_caller d)
+reads_so l (Ok r) c d lt of shows s =
     let there : (z : StoreView) → l < z.locations → store_opening z l ≡ store_of (seen_store z).opening l = λ z lt. sym (cells_first (store_opening z) z.locations l lt) in
     record {
       at = s.at;
@@ -129,7 +102,7 @@ reads_so l (Ok r) c d lt of s =
       makes = sym (made_there (store_opening d.of) (store_of (seen_store d.of).opening) (take s.front d.known) l (there d.of (subst (λ (z : StoreView). l < z.locations) (sym of) lt))) ∙ s.makes;
       no_older = subst (λ (x : Cell). x.version ≤ r.version) (made_there (store_opening c.of) (store_of (seen_store c.of).opening) c.known l (there c.of lt)) s.no_older;
     }
-reads_so l (Err e) c d lt of s = tt
+reads_so l (Err e) c d lt of shows s = given_up c e.steps d shows s
 
 -- ---- the numbers of its own entries
 

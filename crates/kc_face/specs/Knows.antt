@@ -1,9 +1,7 @@
 -- What calls leave of what a caller knows, and what they add to its own entries.
-use Rattle.std.specs.Prelude.{◌≡◌, ◌≢◌, ◌==◌, ℕ, zero, suc, ◌+◌, ◌<◌, ◌≤◌, ◌++◌, ◌||◌, [], ◌∷◌, true, List, All, Contains, IsPermutation, Result, Ok, Err, get_or, length, map, take}
-use Rattle.std.specs.List.{filter}
+use Rattle.std.specs.Prelude.{◌≡◌, ◌≢◌, ℕ, ◌+◌, ◌<◌, ◌≤◌, ◌++◌, ◌||◌, [], ◌∷◌, true, List, All, Contains, IsPermutation, Result, Ok, Err, length, map, take}
 use Rattle.kc_model.specs.Footprint.{IsBelow, Puts, Reads}
 use Rattle.kc_model.specs.Legal.{IsLegal}
-use Rattle.kc_model.specs.Rising.{IsRising}
 use Rattle.kc_model.specs.declared.footprint.Entry.{Entry}
 use Rattle.kc_model.specs.declared.footprint.Footprint.{Footprint}
 use Rattle.kc_model.specs.declared.footprint.Put.{Put}
@@ -13,6 +11,7 @@ use Rattle.kc_model.specs.Store.{Store, after, store_of}
 use Rattle.kc_model.specs.declared.reply.Answer.TheVariants as answer
 use Rattle.kc_face.specs.Views.{CallerSeen, PastSeen, StoreSeen, numbers_from}
 use Rattle.kc_store.specs.Knows.{IsWithin, entries_of, entry_of}
+use Rattle.kc_store.specs.Steps.{busy_bound}
 use Rattle.kc_face.specs.Answers.{is_worn_pool}
 use Rattle.kc_store.specs.declared.reading.ReadBusy.{ReadBusy}
 use Rattle.kc_face.specs.declared.answer.Answered.{Answered}
@@ -30,6 +29,7 @@ pub record Remembers (c d : CallerSeen) : Type 0 where
   pub number : d.number ≡ c.number
   pub known : IsWithin c.known d.known
   pub worn : c.worn ≡ true → d.worn ≡ true
+  pub made : c.made ≤ d.made
 
 -- likewise, with no entry more of its own, and not told so by this
 pub record OnlyLearns (c d : CallerSeen) : Type 0 where
@@ -57,18 +57,23 @@ pub record IsLook (caller : ℕ) (m : Meaning) (e : Entry) : Type 0 where
   pub puts_nothing : e.footprint.puts.items ≡ []
   pub waits : Waits m e.footprint
 
--- one entry more, with this footprint, at the end
-abbrev pub AddsOne : CallerSeen → Footprint → CallerSeen → Type 0
-AddsOne c f d = (n : ℕ) × (d.own ≡ c.own ++ entry_of c.number n f ∷ [])
+-- one entry more, with this footprint, at the end; it stands behind all that the caller knew
+pub record AddsOne (c : CallerSeen) (f : Footprint) (d : CallerSeen) : Type 0 where
+  pub number : ℕ
+  pub own : d.own ≡ c.own ++ entry_of c.number number f ∷ []
+  pub stands : IsWithin (c.known ++ entry_of c.number number f ∷ []) d.known
 
 abbrev pub AddsNone : CallerSeen → CallerSeen → Type 0
 AddsNone c d = d.own ≡ c.own
 
+abbrev pub PutsNothing : Footprint → Type 0
+PutsNothing f = f.puts.items ≡ []
+
 -- one entry more, which puts nothing
 abbrev pub AddsLook : CallerSeen → Footprint → CallerSeen → Type 0
-AddsLook c f d = (f.puts.items ≡ []) × AddsOne c f d
+AddsLook c f d = PutsNothing f × AddsOne c f d
 
--- an entry of another caller, known now, put this location from the version that the call read, and so made this version
+-- an entry of another caller, unknown as the call began and known now, put this location from the version that the call read, and so made this version
 pub record IsOvertaken (c : CallerSeen) (f : Footprint) (l version : ℕ) (d : CallerSeen) : Type 0 where
   pub read : Seen
   pub reads : Reads f read
@@ -76,11 +81,17 @@ pub record IsOvertaken (c : CallerSeen) (f : Footprint) (l version : ℕ) (d : C
   pub next : version ≡ read.version + 1
   pub entry : Entry
   pub known : Contains d.known entry
+  pub unknown : ¬ Contains c.known entry
   pub other : entry.caller ≢ c.number
   pub put : Put
   pub puts : Puts entry.footprint put
   pub there : put.loc ≡ read.loc
   pub ends : put.version ≡ read.version
+
+-- it was given up, with so many steps as the caller counts them, and all made that a call makes
+pub record IsGivenUp (c : CallerSeen) (steps : ℕ) (d : CallerSeen) : Type 0 where
+  pub counts : c.steps + steps ≡ d.steps
+  pub spent : c.made + busy_bound c.of.callers ≤ d.made
 
 -- a commit of a meaning that was answered so: what the answer says of the meaning wherever the footprint's reads stand, and what the call added
 abbrev pub IsAnswered : Meaning → Answered → CallerSeen → Footprint → CallerSeen → Type 0
@@ -88,13 +99,13 @@ IsAnswered m (answered.Done r) c f d = Answers m (answer.Reply r) f × AddsOne c
 IsAnswered m answered.Later c f d = Waits m f × AddsLook c f d
 IsAnswered m answered.TooLarge c f d = Answers m answer.TooLarge f × AddsLook c f d
 IsAnswered m (answered.WornLocation loc) c f d = Wears m loc.0 f × AddsLook c f d
-IsAnswered m answered.WornPool c f d = (d.worn ≡ true) × AddsNone c d
+IsAnswered m answered.WornPool c f d = (d.worn ≡ true) × AddsNone c d × PutsNothing f
 
 -- a try, which may have been lost or given up
 abbrev pub IsTried : Meaning → Result Answered NotYet → CallerSeen → Footprint → CallerSeen → Type 0
 IsTried m (Ok a) c f d = IsAnswered m a c f d
-IsTried m (Err (not_yet.Lost loc version)) c f d = IsOvertaken c f loc.0 version d × AddsNone c d
-IsTried m (Err (not_yet.Busy steps)) c f d = AddsNone c d
+IsTried m (Err (not_yet.Lost loc version)) c f d = IsOvertaken c f loc.0 version d × AddsNone c d × PutsNothing f
+IsTried m (Err (not_yet.Busy steps)) c f d = IsGivenUp c steps d × AddsNone c d × PutsNothing f
 
 -- ---- commits that wait
 
@@ -108,7 +119,7 @@ pub record AddsLooks (m : Meaning) (c d : CallerSeen) : Type 0 where
 pub record IsToldAtLast (m : Meaning) (a : Answered) (c : CallerSeen) (f : Footprint) (d : CallerSeen) : Type 0 where
   pub before : CallerSeen
   pub looks : AddsLooks m c before
-  pub number : before.number ≡ c.number
+  pub remembers : Remembers c before
   pub told : IsAnswered m a before f d
   pub never : a ≢ answered.Later
 
@@ -131,7 +142,7 @@ pub record Stood (l : ℕ) (c : CallerSeen) (r : Seen) (d : CallerSeen) : Type 0
 
 abbrev pub ReadsSo : ℕ → Result Seen ReadBusy → CallerSeen → CallerSeen → Type 0
 ReadsSo l (Ok r) c d = Stood l c r d
-ReadsSo l (Err e) c d = Unit {0}
+ReadsSo l (Err e) c d = IsGivenUp c e.steps d
 
 -- ---- openings
 
