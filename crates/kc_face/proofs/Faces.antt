@@ -3,7 +3,7 @@ use Rattle.std.proofs.Common.{◌≡◌, ◌<◌, ◌≤◌, ℕ, true, List, []
 use Rattle.std.specs.Prelude.{IfOk, Ok, Err, Result, take}
 use Rattle.kc_face.proofs.Cells.{cells_first, made_there}
 use Rattle.kc_face.proofs.Rising.{numbers_rise}
-use Rattle.kc_face.proofs.Told.{given_up}
+use Rattle.kc_face.proofs.Told.{given_up, of_its_seat}
 use Rattle.kc_face.specs.Answers.{has_entry, stays_worn}
 use Rattle.kc_face.specs.Inside.{answered_as, tried_as}
 use Rattle.kc_face.specs.Knows.{NotesWear, ReadsSo, TryNotesWear, entry_numbers}
@@ -102,7 +102,7 @@ reads_so l (Ok r) c d lt of shows s =
       makes = sym (made_there (store_opening d.of) (store_of (seen_store d.of).opening) (take s.front d.known) l (there d.of (subst (λ (z : StoreView). l < z.locations) (sym of) lt))) ∙ s.makes;
       no_older = subst (λ (x : Cell). x.version ≤ r.version) (made_there (store_opening c.of) (store_of (seen_store c.of).opening) c.known l (there c.of lt)) s.no_older;
     }
-reads_so l (Err e) c d lt of shows s = given_up c e.steps d shows s
+reads_so l (Err e) c d lt of shows s = given_up c e.steps d (of_its_seat c shows) s
 
 -- ---- the numbers of its own entries
 

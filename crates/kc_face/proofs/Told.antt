@@ -13,7 +13,12 @@ use Rattle.kc_store.specs.Answers.{Gains, IsBusy, Settles, WasOvertaken, own_ent
 use Rattle.kc_store.specs.Backs.{ShowsItsSeat}
 use Rattle.kc_store.specs.Knows.{IsWithin, OnlyLearns as OnlyLearnsInside, Remembers as RemembersInside}
 use Rattle.kc_store.specs.Steps.{busy_bound, steps_in, steps_made}
-use Rattle.kc_store.specs.Verdicts.{is_worn_pool, verdict_of}
+use Rattle.kc_face.specs.Answers.{tried_by}
+use Rattle.kc_store.specs.Verdicts.{is_worn_pool, verdict_as, verdict_of}
+use Rattle.kc_store.specs.declared.verdict.Fate.{Fate}
+use Rattle.kc_store.specs.declared.verdict.Fate.TheVariants as fate
+use Rattle.kc_xt.specs.declared.attempts.Tried.{Tried}
+use Rattle.kc_xt.specs.declared.attempts.Tried.TheVariants as came
 use Rattle.kc_store.specs.Views.{CallerView, caller_view}
 use Rattle.kc_store.specs.declared.verdict.Answered.{Answered as AnsweredInside}
 use Rattle.kc_store.specs.declared.verdict.Answered.TheVariants as inside
@@ -40,10 +45,14 @@ keeps_made v w k =
     subst (λ n. steps_in v.number v.past ≤ steps_in n w.past) (sym k.number)
     (subst (λ es. steps_in v.number v.past ≤ steps_in v.number es) (sym k.past.1) (steps_more v.number v.past k.past.0))
 
-pub given_up : (c : CallerView) (steps : ℕ) (d : CallerView) → ShowsItsSeat c → IsBusy c.seat steps d.seat → IsGivenUp (seen_caller c) steps (seen_caller d)
-given_up c steps d shows b = record {
+-- its store has as many callers as its seat's
+pub of_its_seat : (c : CallerView) → ShowsItsSeat c → c.of.callers ≡ c.seat.of.origin.callers
+of_its_seat c shows = ap (λ (x : CallerView). x.of.callers) shows
+
+pub given_up : (c : CallerView) (steps : ℕ) (d : CallerView) → c.of.callers ≡ c.seat.of.origin.callers → IsBusy c.seat steps d.seat → IsGivenUp (seen_caller c) steps (seen_caller d)
+given_up c steps d callers b = record {
   counts = b.0;
-  spent = subst (λ n. steps_made c.seat + busy_bound n ≤ steps_made d.seat) (sym (ap (λ (x : CallerView). x.of.callers) shows)) b.1;
+  spent = subst (λ n. steps_made c.seat + busy_bound n ≤ steps_made d.seat) (sym callers) b.1;
 }
 
 -- ---- what a caller knows
@@ -120,3 +129,15 @@ as_answered m inside.WornPool c f d t = t
 
 pub answered_so : (m : Meaning) (a : AnsweredInside) (c : CallerView) (f : Footprint) (d : CallerView) → ShowsItsSeat c → ShowsItsSeat d → KeepsKnown c.seat d.seat → IsMeant (opening_at_seat d.seat) d.seat.past → d.worn ≡ (is_worn_pool (verdict_of a) || c.worn) → Settles m (verdict_of a) c.seat f d.seat → IsAnswered m (answered_as a) (seen_caller c) f (seen_caller d)
 answered_so m a c f d before now keeps meant notes s = as_answered m a (seen_caller c) f (seen_caller d) (tried m (verdict_of a) c f d before now keeps meant notes s)
+
+-- ---- whose reply stays where it lies
+
+pub in_place : (x : Fate) (t : Tried) → tried_as (verdict_as x t) ≡ tried_by x t
+in_place (fate.Entered steps) (came.Done r) = refl
+in_place (fate.Entered steps) came.Later = refl
+in_place (fate.Entered steps) came.TooLarge = refl
+in_place (fate.Entered steps) (came.Worn loc) = refl
+in_place (fate.Entered steps) came.Busy = refl
+in_place (fate.Lost loc version) t = refl
+in_place fate.WornPool t = refl
+in_place (fate.Busy steps) t = refl

@@ -146,11 +146,12 @@ ReadsSo l (Err e) c d = IsGivenUp c e.steps d
 
 -- ---- openings
 
--- these cells stand at its locations, and it has so many callers
-pub record OpensWith (cells : List Cell) (callers : ℕ) (z : StoreSeen) : Type 0 where
+-- these cells stand at its locations, it has so many callers, and its descriptors begin at this generation
+pub record OpensWith (cells : List Cell) (callers generation : ℕ) (z : StoreSeen) : Type 0 where
   pub locations : z.locations ≡ length cells
   pub callers_are : z.callers ≡ callers
   pub opening : z.opening ≡ cells
+  pub first : z.generation ≡ generation
 
 -- ---- endings
 
