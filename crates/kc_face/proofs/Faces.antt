@@ -1,6 +1,7 @@
 -- What the calls inside say, in the words of those who use the store.
 use Rattle.std.proofs.Common.{◌≡◌, ◌<◌, ◌≤◌, ℕ, true, List, [], ◌∷◌, refl, sym, ap, ◌∙◌, subst}
 use Rattle.std.specs.Prelude.{IfOk, Ok, Err, Result, take}
+use Rattle.kc_face.proofs.Begun.{read_at_most, read_once}
 use Rattle.kc_face.proofs.Cells.{cells_first, made_there}
 use Rattle.kc_face.proofs.Rising.{numbers_rise}
 use Rattle.kc_face.proofs.Told.{given_up, of_its_seat}
@@ -18,7 +19,7 @@ use Rattle.kc_store.proofs.Meant.{tries_meant}
 use Rattle.kc_store.specs.Answers.{own_entries}
 use Rattle.kc_store.specs.Backs.{ShowsItsSeat}
 use Rattle.kc_store.specs.Knows.{NotesWear as NotesInside}
-use Rattle.kc_store.specs.Reads.{IsReadOrBusy}
+use Rattle.kc_store.specs.Reads.{IsReadOrBusy, LooksOnce}
 use Rattle.kc_store.specs.Tries.{Tries}
 use Rattle.kc_store.specs.Views.{CallerView, StoreView, caller_view, store_opening, store_view}
 use Rattle.kc_store.specs.declared.reading.ReadBusy.{ReadBusy}
@@ -93,16 +94,16 @@ stays_so (verdict.Busy steps) e = e
 
 -- ---- reads
 
-pub reads_so : (l : ℕ) (r : Result Seen ReadBusy) (c d : CallerView) → l < c.of.locations → d.of ≡ c.of → ShowsItsSeat c → IsReadOrBusy l r c d → ReadsSo l r (seen_caller c) (seen_caller d)
-reads_so l (Ok r) c d lt of shows s =
+pub reads_so : (l : ℕ) (r : Result Seen ReadBusy) (c d : CallerView) → l < c.of.locations → d.of ≡ c.of → ShowsItsSeat c → LooksOnce l r c.seat d.seat → IsReadOrBusy l r c d → ReadsSo l r (seen_caller c) (seen_caller d)
+reads_so l (Ok r) c d lt of shows once s =
     let there : (z : StoreView) → l < z.locations → store_opening z l ≡ store_of (seen_store z).opening l = λ z lt. sym (cells_first (store_opening z) z.locations l lt) in
-    record {
+    (record {
       at = s.at;
       front = s.front;
       makes = sym (made_there (store_opening d.of) (store_of (seen_store d.of).opening) (take s.front d.known) l (there d.of (subst (λ (z : StoreView). l < z.locations) (sym of) lt))) ∙ s.makes;
       no_older = subst (λ (x : Cell). x.version ≤ r.version) (made_there (store_opening c.of) (store_of (seen_store c.of).opening) c.known l (there c.of lt)) s.no_older;
-    }
-reads_so l (Err e) c d lt of shows s = given_up c e.steps d (of_its_seat c shows) s
+    }, read_once l r c.seat d.seat once)
+reads_so l (Err e) c d lt of shows once s = (given_up c e.steps d (of_its_seat c shows) s, read_at_most l e c.seat d.seat once)
 
 -- ---- the numbers of its own entries
 

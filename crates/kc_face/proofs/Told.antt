@@ -3,7 +3,7 @@ use Rattle.std.proofs.Common.{◌≡◌, ◌≤◌, ◌+◌, ◌||◌, Bool, ℕ
 use Rattle.kc_face.proofs.Stands.{among_behind, entry_in, unknown_at_all}
 use Rattle.kc_face.specs.Inside.{answered_as, tried_as}
 use Rattle.kc_face.specs.Knows.{AddsOne, IsAnswered, IsGivenUp, IsOvertaken, IsTried, OnlyLearns, Remembers}
-use Rattle.kc_face.specs.Shows.{seen_caller, seen_store}
+use Rattle.kc_face.specs.Shows.{seen_caller, seen_store, signalled_by}
 use Rattle.kc_face.specs.Views.{CallerSeen}
 use Rattle.kc_model.specs.declared.footprint.Footprint.{Footprint}
 use Rattle.kc_store.proofs.Remembering.{entries_push, entries_within}
@@ -24,11 +24,13 @@ use Rattle.kc_store.specs.declared.verdict.Answered.{Answered as AnsweredInside}
 use Rattle.kc_store.specs.declared.verdict.Answered.TheVariants as inside
 use Rattle.kc_store.specs.declared.verdict.Verdict.{Verdict}
 use Rattle.kc_store.specs.declared.verdict.Verdict.TheVariants as verdict
+use Rattle.kc_store.specs.kc_machine.Machine.{run}
+use Rattle.kc_store.specs.kc_table_moves.Origins.{opening_of}
 use Rattle.kc_store.specs.kc_machine_steps.declared.task.Event.{Event}
 use Rattle.kc_store.specs.kc_machine_steps.declared.task.Event.TheVariants.{Begin, Step, Halt}
 use Rattle.kc_store.specs.kc_machine_traces.Histories.{Placed, entries}
 use Rattle.kc_store.specs.kc_table_laws.Tasks.{KeepsKnown}
-use Rattle.kc_store.specs.kc_table_moves.Views.{SeatView, knows, opening_at_seat}
+use Rattle.kc_store.specs.kc_table_moves.Views.{SeatView, Signalled, knows, opening_at_seat}
 use Rattle.kc_store.specs.kc_table_views.Known.{IsMeant}
 use Rattle.kc_xt.specs.Meaning.{Meaning}
 
@@ -141,3 +143,8 @@ in_place (fate.Entered steps) came.Busy = refl
 in_place (fate.Lost loc version) t = refl
 in_place fate.WornPool t = refl
 in_place (fate.Busy steps) t = refl
+
+-- ---- signals
+
+pub signal_stands : (v : SeatView) (answer : Bool) (w : SeatView) → Signalled v answer w → answer ≡ signalled_by w
+signal_stands v answer w s = s.stood ∙ (λ i. (run (opening_of (sym s.learns.of i).origin) w.past).world.signal (sym s.learns.number i))

@@ -140,9 +140,10 @@ pub record Stood (l : ℕ) (c : CallerSeen) (r : Seen) (d : CallerSeen) : Type 0
   pub makes : made_by (store_of d.of.opening) (take front d.known) l ≡ cell_of r
   pub no_older : (made_by (store_of c.of.opening) c.known l).version ≤ r.version
 
+-- it was read by one look, or given up, with one look or none
 abbrev pub ReadsSo : ℕ → Result Seen ReadBusy → CallerSeen → CallerSeen → Type 0
-ReadsSo l (Ok r) c d = Stood l c r d
-ReadsSo l (Err e) c d = IsGivenUp c e.steps d
+ReadsSo l (Ok r) c d = Stood l c r d × (d.begun ≡ c.begun + 1)
+ReadsSo l (Err e) c d = IsGivenUp c e.steps d × (d.begun ≤ c.begun + 1)
 
 -- ---- openings
 
