@@ -96,13 +96,15 @@ stays_so (verdict.Busy steps) e = e
 
 pub reads_so : (l : ℕ) (r : Result Seen ReadBusy) (c d : CallerView) → l < c.of.locations → d.of ≡ c.of → ShowsItsSeat c → LooksOnce l r c.seat d.seat → IsReadOrBusy l r c d → ReadsSo l r (seen_caller c) (seen_caller d)
 reads_so l (Ok r) c d lt of shows once s =
-    let there : (z : StoreView) → l < z.locations → store_opening z l ≡ store_of (seen_store z).opening l = λ z lt. sym (cells_first (store_opening z) z.locations l lt) in
-    (record {
-      at = s.at;
-      front = s.front;
-      makes = sym (made_there (store_opening d.of) (store_of (seen_store d.of).opening) (take s.front d.known) l (there d.of (subst (λ (z : StoreView). l < z.locations) (sym of) lt))) ∙ s.makes;
-      no_older = subst (λ (x : Cell). x.version ≤ r.version) (made_there (store_opening c.of) (store_of (seen_store c.of).opening) c.known l (there c.of lt)) s.no_older;
-    }, read_once l r c.seat d.seat once)
+    let there : (z : StoreView) → l < z.locations → store_opening z l ≡ store_of (seen_store z).opening l = λ z lt. sym (cells_first (store_opening z) z.locations l lt) in (
+      record {
+        at = s.at;
+        front = s.front;
+        makes = sym (made_there (store_opening d.of) (store_of (seen_store d.of).opening) (take s.front d.known) l (there d.of (subst (λ (z : StoreView). l < z.locations) (sym of) lt))) ∙ s.makes;
+        no_older = subst (λ (x : Cell). x.version ≤ r.version) (made_there (store_opening c.of) (store_of (seen_store c.of).opening) c.known l (there c.of lt)) s.no_older;
+      },
+      read_once l r c.seat d.seat once,
+    )
 reads_so l (Err e) c d lt of shows once s = (given_up c e.steps d (of_its_seat c shows) s, read_at_most l e c.seat d.seat once)
 
 -- ---- the numbers of its own entries

@@ -55,9 +55,9 @@ missed : (m : Meaning) (c : CallerView) (f : Footprint) (d : CallerView) → Mis
 missed m c f d x = record {
   some = some_read f.reads.items x.missed.until.front x.missed.until.within;
   again =
-  let a = keeps_made c.seat x.seen (looked_keeps m x.tried c.seat f x.seen x.looked) in
-  let b = missed_counts x.seen f.reads.items d.seat x.missed in
-  omega (arith, a, b);
+      let a = keeps_made c.seat x.seen (looked_keeps m x.tried c.seat f x.seen x.looked) in
+      let b = missed_counts x.seen f.reads.items d.seat x.missed in
+      omega (arith, a, b);
 }
 
 -- ---- fronts
