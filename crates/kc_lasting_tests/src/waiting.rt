@@ -5,7 +5,7 @@ use crate::asserts::{equal, holds};
 use kc_await::Deadline;
 use kc_lasting::LastingCaller;
 use kc_loc::{LocOp, Rel};
-use kc_model::{Footprint, Loc, Reply};
+use kc_model::{Footprint, LAST_VERSION, Loc, Reply};
 use kc_store::Answered;
 use kc_xt::Transact;
 use std::alloc::Global;
@@ -47,8 +47,8 @@ fn renew<R: Wait + Clock>(rt: &R, mut caller: LastingCaller, pause: u64) -> u64 
     caller.era()
 }
 
-fn by_two<R: Threads + Wait + Clock + Abort + AllocGlobal + Sync>(rt: &R, pause: u64) {
-    let mut callers = opened(rt, &[0, 0, 0, 0], 2, NONE);
+fn by_two<R: Threads + Wait + Clock + Abort + AllocGlobal + Sync>(rt: &R, wear: Wear, pause: u64) {
+    let mut callers = opened(rt, &[0, 0, 0, 0], 2, wear);
     let (Some(a), Some(b)) = (callers.pop(), callers.pop()) else {
         return holds(rt, false);
     };
@@ -58,12 +58,21 @@ fn by_two<R: Threads + Wait + Clock + Abort + AllocGlobal + Sync>(rt: &R, pause:
 
 #[test]
 fn who_hangs_is_woken_where_the_era_ends(rt: HostRuntime) {
-    by_two(&rt, 2_000);
+    by_two(&rt, NONE, 2_000);
+}
+
+#[test]
+fn who_hangs_at_a_last_version_is_woken_where_the_era_ends(rt: HostRuntime) {
+    let worn = Wear {
+        version: LAST_VERSION,
+        ..NONE
+    };
+    by_two(&rt, worn, 2_000);
 }
 
 #[test]
 fn who_begins_to_hang_goes_on_where_the_era_ends(rt: HostRuntime) {
-    by_two(&rt, 0);
+    by_two(&rt, NONE, 0);
 }
 
 // What a wait for a value at location 0 is answered, which lasts so long at most; None where the clock can't be read.
